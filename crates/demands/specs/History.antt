@@ -1,0 +1,77 @@
+-- What happens to a machine and its memory, one moment after another: kept as data, so that whatever is measured over it is a fold.
+use mathlib.Core.Path.{_≡_}
+use mathlib.Core.List.{List}
+use Prim.Native.Nat.{ℕ, zero, suc, _+_, _<_}
+use Rattle.machine.specs.Memory.{byteAt}
+use Rattle.machine.specs.Fetch.{instructionAt}
+use Rattle.machine.specs.Step.{done, stepOf, costOf}
+use Rattle.machine.specs.Run.{After}
+use Rattle.machine.specs.declared.Machine.{Machine}
+
+pub record World : Type 0 where
+  pub memory : List ℕ
+  pub machine : Machine
+
+abbrev pub world : List ℕ → Machine → World
+world memory machine = record { memory = memory; machine = machine }
+
+-- what a run leaves
+abbrev pub left : After → World
+left a = world (a .memory) (a .ran .machine)
+
+-- the code at the program counter, the pointer E, the clock cycles of the instruction at the program counter
+abbrev pub codeAt : World → ℕ
+codeAt w = byteAt (w .memory) (w .machine .counter)
+
+abbrev pub levels : World → ℕ
+levels w = w .machine .links .e
+
+abbrev pub costAt : World → ℕ
+costAt w = costOf (instructionAt (w .memory) (w .machine .counter)) (w .machine)
+
+-- one moment of a history: an event of a new kind is one more case here
+pub data Moment (w v : World) : Type 0 where
+  -- an instruction is carried out
+  step : (k : ℕ) → stepOf (w .memory) (w .machine) ≡ done (v .memory) (v .machine) k → Moment w v
+  -- the host's turn: it may change the memory as it likes, and hands the machine back unaltered
+  turn : v .machine ≡ w .machine → Moment w v
+
+pub data History : World → World → Type 0 where
+  here : {w : World} → History w w
+  then : {w u v : World} → Moment w u → History u v → History w v
+
+-- one history after another
+abbrev pub joined : {w u v : World} → History w u → History u v → History w v
+joined here later = later
+joined (then moment rest) later = then moment (joined rest later)
+
+-- how many instructions a history carries out, and the sum of their clock cycles
+abbrev pub stepsIn : {w v : World} → History w v → ℕ
+stepsIn here = zero
+stepsIn (then (step k e) rest) = suc (stepsIn rest)
+stepsIn (then (turn e) rest) = stepsIn rest
+
+abbrev pub cyclesIn : {w v : World} → History w v → ℕ
+cyclesIn here = zero
+cyclesIn {w} (then (step k e) rest) = costAt w + cyclesIn rest
+cyclesIn (then (turn e) rest) = cyclesIn rest
+
+-- no host's turn in it
+abbrev pub Unbroken : {w v : World} → History w v → Type 0
+Unbroken here = Unit {0}
+Unbroken (then (step k e) rest) = Unbroken rest
+Unbroken (then (turn e) rest) = ⊥
+
+-- a moment that is no RESETSP, and a history of such moments
+abbrev pub Ordinary : {w v : World} → Moment w v → Type 0
+Ordinary {w} (step k e) = codeAt w ≡ 0x0C → ⊥
+Ordinary (turn e) = Unit {0}
+
+abbrev pub NoReset : {w v : World} → History w v → Type 0
+NoReset here = Unit {0}
+NoReset (then moment rest) = Ordinary moment × NoReset rest
+
+-- E is above n from the first to the last
+abbrev pub Above : ℕ → {w v : World} → History w v → Type 0
+Above n {w} here = n < levels w
+Above n {w} (then moment rest) = (n < levels w) × Above n rest

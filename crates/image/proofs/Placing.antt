@@ -1,0 +1,80 @@
+-- Laws of the loops that place zeros and cells.
+use mathlib.Core.List.{List, [], _∷_, _++_, append-assoc, append-nil}
+use mathlib.Core.Path.{_≡_, refl, sym, ap, _∙_}
+use Prim.Native.Nat.{ℕ, zero, suc, _+_, _-_, _*_, _≤_, _<_}
+use native.Mathlib.Numerals.{add-one}
+use native.Mathlib.Omega.{arith}
+use lib.ListN.{length, take, drop, getD, set, replicate, length-append, length-replicate, replicate-append-replicate, drop-of-length-le}
+use lib.Seq.{drop-cons, set-at, take-at, append-snoc, length-take-le}
+use Rattle.image.specs.Judging.{cellAt, cellsAt}
+use Rattle.image.specs.Loading.{padded}
+use Rattle.image.specs.Numbers.{length-cells}
+
+one-zero-more : (j : ℕ) (ys : List ℕ) → replicate j 0 ++ 0 ∷ ys ≡ replicate (j + 1) 0 ++ ys
+one-zero-more j ys =
+    sym (append-snoc (replicate j 0) 0 ys) ∙ ap (λ (l : List ℕ). l ++ ys) (replicate-append-replicate j 1 0)
+
+-- a turn's store takes the zeros from a up to i to one more
+pub cleared : (d m : List ℕ) (a i : ℕ) → a ≤ i → i < length d → m ≡ take a d ++ (replicate (i - a) 0 ++ drop i d)
+    → set m i 0 ≡ take a d ++ (replicate (i + 1 - a) 0 ++ drop (i + 1) d)
+cleared d m a i le in-d e =
+    let head : List ℕ = take a d ++ replicate (i - a) 0 in
+    let long-a : length (take a d) ≡ a = length-take-le a d (omega arith) in
+    let long : length head ≡ i =
+    length-append (take a d) (replicate (i - a) 0) ∙ ap (λ (n : ℕ). length (take a d) + n) (length-replicate (i - a) 0) ∙ omega arith in
+    let more : i - a + 1 ≡ i + 1 - a = omega arith in
+    ap (λ (l : List ℕ). set l i 0)
+    (e ∙ ap (λ (l : List ℕ). take a d ++ (replicate (i - a) 0 ++ l)) (drop-cons d i 0 in-d) ∙ sym (append-assoc (take a d) (replicate (i - a) 0) (getD d i 0 ∷ drop (suc i) d)))
+    ∙ set-at head (getD d i 0) (drop (suc i) d) 0 i long
+    ∙ append-assoc (take a d) (replicate (i - a) 0) (0 ∷ drop (suc i) d)
+    ∙ ap (λ (l : List ℕ). take a d ++ l) (one-zero-more (i - a) (drop (suc i) d))
+    ∙ ap (λ (n : ℕ). take a d ++ (replicate n 0 ++ drop (suc i) d)) more
+    ∙ ap (λ (n : ℕ). take a d ++ (replicate (i + 1 - a) 0 ++ drop n d)) (sym (add-one i))
+
+-- n elements copied, then zeros to the end
+pub filled : (s d m r : List ℕ) (n a i : ℕ) → n ≤ length s → n ≤ length d → a ≡ n → m ≡ take a s ++ drop a d → length m ≡ length d → i ≡ length d
+    → r ≡ take a m ++ (replicate (i - a) 0 ++ drop i m) → r ≡ padded (length d) (take n s)
+unfolding padded
+filled s d m r n a i in-s in-d at-n e same at-end f =
+    let long : length (take n s) ≡ n = length-take-le n s in-s in
+    let long-a : length (take a s) ≡ a = length-take-le a s (omega arith) in
+    let head : take a m ≡ take n s = ap (take a) e ∙ take-at (take a s) (drop a d) a long-a ∙ ap (λ (k : ℕ). take k s) at-n in
+    let none : drop i m ≡ [] = drop-of-length-le m {i = i} (omega arith) in
+    let count : i - a ≡ length d - length (take n s) = omega arith in
+    f
+    ∙ ap (λ (l : List ℕ). l ++ (replicate (i - a) 0 ++ drop i m)) head
+    ∙ ap (λ (l : List ℕ). take n s ++ (replicate (i - a) 0 ++ l)) none
+    ∙ ap (λ (l : List ℕ). take n s ++ l) (append-nil (replicate (i - a) 0))
+    ∙ ap (λ (k : ℕ). take n s ++ replicate k 0) count
+
+-- the first zero of the padding becomes one more number
+pub set-padded : (size : ℕ) (xs : List ℕ) (v : ℕ) → length xs < size → set (padded size xs) (length xs) v ≡ padded size (xs ++ (v ∷ []))
+unfolding padded
+set-padded size xs v h =
+    let rest : ℕ = size - suc (length xs) in
+    let left : size - length xs ≡ suc rest = omega arith in
+    let long : length (xs ++ (v ∷ [])) ≡ length xs + 1 = length-append xs (v ∷ []) in
+    let less : rest ≡ size - length (xs ++ (v ∷ [])) = omega arith in
+    ap (λ (n : ℕ). set (xs ++ replicate n 0) (length xs) v) left
+    ∙ set-at xs 0 (replicate rest 0) v (length xs) refl
+    ∙ sym (append-snoc xs v (replicate rest 0))
+    ∙ ap (λ (n : ℕ). (xs ++ (v ∷ [])) ++ replicate n 0) less
+
+-- one more cell stands at the end
+pub cells-more : (file : List ℕ) (at n : ℕ) → cellsAt file at (suc n) ≡ cellsAt file at n ++ (cellAt file (at + 4 * n) ∷ [])
+unfolding cellsAt
+cells-more file at zero = let e : at ≡ at + 4 * 0 = omega arith in ap (λ (k : ℕ). cellAt file k ∷ []) e
+cells-more file at (suc n) =
+    let e : at + 4 + 4 * n ≡ at + 4 * suc n = omega arith in
+    ap (λ (l : List ℕ). cellAt file at ∷ l) (cells-more file (at + 4) n ∙ ap (λ (k : ℕ). cellsAt file (at + 4) n ++ (cellAt file k ∷ [])) e)
+
+pub cell-placed : (file cells : List ℕ) (at i v : ℕ) → i < 64 → v ≡ cellAt file (at + 4 * i) → cells ≡ padded 64 (cellsAt file at i)
+    → set cells i v ≡ padded 64 (cellsAt file at (i + 1))
+cell-placed file cells at i v h e f =
+    let long : length (cellsAt file at i) ≡ i = length-cells file at i in
+    ap (λ (l : List ℕ). set l i v) f
+    ∙ ap (λ (k : ℕ). set (padded 64 (cellsAt file at i)) k v) (sym long)
+    ∙ set-padded 64 (cellsAt file at i) v (omega arith)
+    ∙ ap (λ (w : ℕ). padded 64 (cellsAt file at i ++ (w ∷ []))) e
+    ∙ ap (padded 64) (sym (cells-more file at i))
+    ∙ ap (λ (n : ℕ). padded 64 (cellsAt file at n)) (sym (add-one i))

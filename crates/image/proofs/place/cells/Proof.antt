@@ -1,0 +1,70 @@
+-- Before turn i the array is the first i cells and zeros above them.
+use mathlib.Core.Path.{_≡_, refl, ap, _∙_}
+use Prim.Native.Nat.{ℕ, _≤_, _-_}
+use native.Mathlib.Omega.{arith}
+use borrow.Author.Needs.{needs}
+use Rattle.image.specs.Judging.{cellsAt}
+use Rattle.image.specs.Loading.{padded}
+use Rattle.image.proofs.Placing.{cell-placed}
+use Rattle.image.proofs.place.cells.Statement.{statement}
+use Rattle.image.proofs.place.cells.Tie as tie
+
+abbrev Inv-loop : tie.InvT-loop
+Inv-loop file from count cells₀ i₀ cells i = (i ≤ count) × (cells ≡ padded 64 (cellsAt file from i))
+
+abbrev μ-loop : tie.MeasureT-loop
+μ-loop file from count cells₀ i₀ cells i = count - i
+
+loop-holds : tie.Need-loop-holds Inv-loop μ-loop
+unfolding padded cellsAt
+loop-holds c = (search needs, refl)
+
+mul-cell-at : tie.Need-mul-cell-at Inv-loop μ-loop
+mul-cell-at c = search needs
+
+add-cell-at : tie.Need-add-cell-at Inv-loop μ-loop
+add-cell-at c = search needs
+
+cell-at-requires : tie.Need-cell-at-requires Inv-loop μ-loop
+cell-at-requires c κs = search needs
+
+mul-cells : tie.Need-mul-cells Inv-loop μ-loop
+mul-cells c = search needs
+
+array-write-cells : tie.Need-array-write-cells Inv-loop μ-loop
+array-write-cells c = search needs
+
+add-i : tie.Need-add-i Inv-loop μ-loop
+add-i c = search needs
+
+loop-less : tie.Need-loop-less Inv-loop μ-loop
+loop-less c = search needs
+
+loop-again : tie.Need-loop-again Inv-loop μ-loop
+loop-again c =
+    let start = c .before .before .before .before in
+    let here = c .before .before .loop in (
+      omega arith,
+      cell-placed (start .args .file .now) (here .cells) (start .args .from) (here .i) (c .cell-at .result) (omega arith) (c .cell-at .ensures)
+          (here .inv .1),
+    )
+
+returns : tie.Need-returns Inv-loop μ-loop
+returns c = c .before .loop .inv .1 ∙ ap (λ (n : ℕ). padded 64 (cellsAt (c .before .before .before .args .file .now) (c .before .before .before .args .from) n)) (omega arith)
+
+pub cells-spec : {M : Type 1} → statement M
+cells-spec =
+    tie.close
+    (tie.spec
+    Inv-loop
+    μ-loop
+    loop-holds
+    mul-cell-at
+    add-cell-at
+    cell-at-requires
+    mul-cells
+    array-write-cells
+    add-i
+    loop-less
+    loop-again
+    returns)

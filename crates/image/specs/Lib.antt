@@ -1,0 +1,9 @@
+pub mod Format
+pub mod Loading
+pub mod Judging
+pub mod Numbers
+pub mod Sound
+pub mod Complete
+pub mod Only
+pub mod Computed
+pub mod Sample

@@ -1,0 +1,17 @@
+pub mod Choice
+pub mod Linked
+pub mod Actions
+pub mod Fresh
+pub mod Sound
+pub mod Allowed
+pub mod Rising
+pub mod Copies
+pub mod Tests
+pub mod Kept
+pub mod Restored
+pub mod Dropped
+pub mod Standing
+pub mod History
+pub mod Called
+pub mod Only
+pub mod Occurs

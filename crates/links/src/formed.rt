@@ -1,0 +1,58 @@
+// The three loops of the test for well-formed links, each from the top level down to level 1.
+use crate::Frame;
+use crate::Level;
+ghost use mathlib.Core.Path.{_≡_};
+ghost use Prim.Native.Nat.{_≤_};
+ghost use Rattle.links.specs.Linked.{copyOfR, copyOfS, copyOfP, rises, within};
+
+// The copies of R rise strictly up to level s, with the last below r.
+pub(crate) fn returns_rise(frames: [Frame; 33], r: usize, s: usize) -> bool
+    requires { ⌜ s ≤ 32 ⌝ }
+    ensures { λ b. ⌜ b ≡ rises (copyOfR frames) r s ⌝ }
+{
+    let mut top = r;
+    let mut n = s;
+    while 0 < n {
+        let frame = frames[n];
+        if top <= frame.r {
+            return false;
+        }
+        top = frame.r;
+        n = n - 1;
+    }
+    true
+}
+
+// The copies of S rise strictly up to level e, with the last below s.
+pub(crate) fn subroutines_rise(levels: [Level; 9], s: usize, e: usize) -> bool
+    requires { ⌜ e ≤ 8 ⌝ }
+    ensures { λ b. ⌜ b ≡ rises (copyOfS levels) s e ⌝ }
+{
+    let mut top = s;
+    let mut n = e;
+    while 0 < n {
+        let level = levels[n];
+        if top <= level.s {
+            return false;
+        }
+        top = level.s;
+        n = n - 1;
+    }
+    true
+}
+
+// A copy of P leaves room for the code that a THROW pushes.
+pub(crate) fn depths_within(levels: [Level; 9], e: usize) -> bool
+    requires { ⌜ e ≤ 8 ⌝ }
+    ensures { λ b. ⌜ b ≡ within (copyOfP levels) 63 e ⌝ }
+{
+    let mut n = e;
+    while 0 < n {
+        let level = levels[n];
+        if 63 < level.p {
+            return false;
+        }
+        n = n - 1;
+    }
+    true
+}

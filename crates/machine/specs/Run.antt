@@ -1,0 +1,45 @@
+-- A run under a budget: its instructions one after another, steps and cycles counted.
+use mathlib.Core.Bool.{Bool, true, false}
+use mathlib.Core.List.{List}
+use Prim.Native.Nat.{ℕ, zero, suc, _+_}
+use lib.Dec.{leb, eqb}
+use lib.ListN.{length}
+use Rattle.links.specs.Choice.{both}
+use Rattle.machine.specs.State.{wellFormed}
+use Rattle.machine.specs.Step.{Stepped, refused, done, stepOf}
+use Rattle.machine.specs.declared.Machine.{Machine}
+use Rattle.machine.specs.declared.Ran.{Ran}
+
+-- what a run leaves: the memory, and what it hands back
+pub record After : Type 0 where
+  pub memory : List ℕ
+  pub ran : Ran
+
+abbrev pub ended : ℕ → List ℕ → Machine → ℕ → ℕ → After
+ended answer mem m steps cycles =
+    record {
+      memory = mem;
+      ran = record { answer = answer; steps = record { 0 = steps }; cycles = record { 0 = cycles }; machine = m };
+    }
+
+-- the run from here: instructions left in the budget, then the steps and cycles counted so far.
+-- Before each instruction a spent budget ends the run with 1; a completed instruction is one step.
+unfoldable pub runFrom : ℕ → List ℕ → Machine → ℕ → ℕ → After
+runFrom zero mem m steps cycles = ended 1 mem m steps cycles
+runFrom (suc left) mem m steps cycles =
+    elim (stepOf mem m) [
+      | refused number ↦ ended number mem m steps cycles
+      | done mem′ m′ cost ↦ runFrom left mem′ m′ (suc steps) (cycles + cost)
+    ]
+
+-- memory length, budget and state as document 01 asks
+unfoldable pub acceptable : List ℕ → Machine → ℕ → Bool
+acceptable mem m budget = both (eqb (length mem) 32768) (both (leb budget 1000000) (wellFormed m))
+
+-- answer 2 is tested before the first instruction, and alters nothing
+unfoldable pub runOf : List ℕ → Machine → ℕ → After
+runOf mem m budget =
+    elim (acceptable mem m budget) [
+      | true ↦ runFrom budget mem m 0 0
+      | false ↦ ended 2 mem m 0 0
+    ]

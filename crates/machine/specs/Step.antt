@@ -1,0 +1,51 @@
+-- One instruction: refused with a number, or carried out.
+use mathlib.Core.List.{List, [], _∷_}
+use Prim.Native.Nat.{ℕ, _+_}
+use lib.Dec.{eqb}
+use lib.ListN.{length}
+use lib.Seq.{sets}
+use Rattle.links.specs.Choice.{pick, both}
+use Rattle.links.specs.Actions.{act}
+use Rattle.machine.specs.Codes.{entryAt, cyclesOf}
+use Rattle.machine.specs.Fetch.{Instruction, instructionAt}
+use Rattle.machine.specs.Rows.{Row, rowOf, top}
+use Rattle.machine.specs.Checks.{Test, tests}
+use Rattle.machine.specs.declared.Machine.{Machine}
+
+pub data Stepped : Type 0 where
+  -- the answer number; nothing is altered
+  refused : ℕ → Stepped
+  -- the memory and the machine afterwards, and the instruction's clock cycles
+  done : List ℕ → Machine → ℕ → Stepped
+
+-- the machine after a row: its cells put, its links acted on, its counter and flag as the row says
+abbrev pub put : Row → Machine → Machine
+put row m =
+    record {
+      cells = sets (m .cells) (row .keeps) (row .puts);
+      p = row .keeps + length (row .puts);
+      links = act (row .link) (m .links);
+      counter = row .goes;
+      flag = row .flag;
+    }
+
+-- the cycle table's count; THROW of 0 is its one exception
+abbrev pub costOf : Instruction → Machine → ℕ
+costOf i m = pick (both (eqb (i .code) 0x0D) (eqb (top m) 0)) 1 (cyclesOf (i .code))
+
+-- refused by the first test that holds
+abbrev pub unless : List Test → Stepped → Stepped
+unless [] result = result
+unless (t ∷ ts) result = pick (t .holds) (refused (t .number)) (unless ts result)
+
+-- an instruction whose row is known
+abbrev pub carry : Instruction → Row → Machine → Stepped
+carry i row m = unless (tests i m row) (done (row .memory) (put row m) (costOf i m))
+
+-- an instruction that was fetched
+unfoldable pub carried : Instruction → List ℕ → Machine → Stepped
+carried i mem m = carry i (rowOf i mem m (entryAt (i .code) .op)) m
+
+-- the instruction at the program counter
+unfoldable pub stepOf : List ℕ → Machine → Stepped
+stepOf mem m = carried (instructionAt mem (m .counter)) mem m

@@ -1,0 +1,70 @@
+// The bench program's text, as bytes in a lent buffer.
+mod digits;
+mod lines;
+
+use machine::Machine;
+use machine::Ran;
+ghost use mathlib.Core.Path.{_≡_};
+ghost use Prim.Native.Nat.{_≤_};
+ghost use lib.ListN.{length, take};
+ghost use Rattle.report.specs.Printing.{printedIn, reportOf, refusalOf};
+
+// How many bytes were written, or the answer number of a call that wrote none.
+pub enum Printed {
+    Text(usize),
+    Refused(u32),
+}
+
+// Copies the first bytes of a text to a buffer that has room for them.
+fn print(text: &[u8], count: usize, out: &mut [u8]) -> Printed
+    requires { ⌜ count ≤ length (now text) ⌝ }
+    ensures { λ r. ⌜ record { printed = r; out = now (out .exit) } ≡ printedIn (take count (now (text .entry))) (now (out .entry)) ⌝ }
+{
+    if out.len() < count {
+        return Printed::Refused(2);
+    }
+    let mut i = 0;
+    while i < count {
+        out[i] = text[i];
+        i += 1;
+    }
+    Printed::Text(count)
+}
+
+// The text of a run. It is made aside first, so that a buffer too short for it stays untouched.
+pub fn report(ran: Ran, out: &mut [u8]) -> Printed
+    ensures { λ r. ⌜ record { printed = r; out = now (out .exit) } ≡ reportOf ran (now (out .entry)) ⌝ }
+{
+    let machine = ran.machine;
+    let p = machine.p;
+    if Machine::CELLS < p {
+        return Printed::Refused(2);
+    }
+    let steps = ran.steps;
+    let cycles = ran.cycles;
+    let links = machine.links;
+    let numbers = [
+        ran.answer as usize,
+        steps.0 as usize,
+        cycles.0 as usize,
+        machine.counter as usize,
+        p,
+        links.r,
+        links.s,
+        links.e,
+    ];
+    let cells = machine.cells;
+    let mut text = [0u8; 768];
+    let first = lines::put_line(&mut text, numbers);
+    let end = lines::put_cells(&mut text, first, cells, p);
+    print(&text, end, out)
+}
+
+// The text of a refused image.
+pub fn refusal(number: u32, out: &mut [u8]) -> Printed
+    ensures { λ r. ⌜ record { printed = r; out = now (out .exit) } ≡ refusalOf number (now (out .entry)) ⌝ }
+{
+    let mut text = [0u8; 32];
+    let end = digits::put_field(&mut text, 0, number as usize, 0x0A);
+    print(&text, end, out)
+}

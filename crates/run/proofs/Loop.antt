@@ -1,0 +1,108 @@
+-- Where the run's loop stands: what is left of the run from here is what the whole run is.
+use mathlib.Core.Path.{_≡_, refl, ap, sym, _∙_, subst}
+use mathlib.Core.Bool.{Bool, true, false}
+use mathlib.Core.List.{List, map}
+use Prim.Native.Nat.{ℕ, zero, suc, _+_, _-_, _*_, _≤_, _<_}
+use native.Mathlib.Omega.{arith}
+use lib.Dec.{leb, eqb, T, leb→le, eqb→eq}
+use lib.ListN.{length, length-map}
+use Rattle.links.specs.Choice.{both}
+use Rattle.machine.specs.State.{wellFormed}
+use Rattle.machine.specs.Fetch.{instructionAt}
+use Rattle.machine.specs.Step.{Stepped, refused, done, stepOf, costOf}
+use Rattle.machine.specs.Run.{After, ended, runFrom, acceptable}
+use Rattle.machine.specs.Costs.{cost-bounded}
+use Rattle.machine.specs.Kept.{Whole, Formed, formed, step-kept}
+use Rattle.machine.specs.Passed.{step-done}
+use Rattle.machine.specs.Tables.{both-parts}
+use Rattle.machine.specs.declared.Machine.{Machine}
+
+-- an array of structs has as many elements as the list of their values
+pub length-mapped : (X Y : Type 0) (f : X → Y) (l : List X) (n : ℕ) → length (map f l) ≡ n → length l ≡ n
+length-mapped X Y f l n e = sym (length-map l f) ∙ e
+
+pub record Here (mem₀ : List ℕ) (m₀ : Machine) (budget : ℕ) (mem : List ℕ) (m : Machine) (n c : ℕ) : Type 0 where
+  pub same : runFrom budget mem₀ m₀ 0 0 ≡ runFrom (budget - n) mem m n c
+  pub within : n ≤ budget
+  pub priced : c ≤ 42 * n
+  pub limit : budget ≤ 1000000
+  pub long₀ : length mem₀ ≡ 32768
+  pub long : length mem ≡ 32768
+  pub whole : Whole m
+  pub formed : Formed m
+
+module _ (mem₀ : List ℕ) (m₀ : Machine) (budget : ℕ) where
+  -- it starts
+  pub starts : acceptable mem₀ m₀ budget ≡ true → Whole m₀ → Here mem₀ m₀ budget mem₀ m₀ 0 0
+  unfolding acceptable
+  starts e whole =
+      let t = both-parts (eqb (length mem₀) 32768) (both (leb budget 1000000) (wellFormed m₀)) (subst T (sym e) tt) in
+      let u = both-parts (leb budget 1000000) (wellFormed m₀) (t .1) in
+      let long = eqb→eq (length mem₀) 32768 (t .0) in
+      record {
+        same = ap (λ (left : ℕ). runFrom left mem₀ m₀ 0 0) (omega arith);
+        within = omega arith;
+        priced = omega arith;
+        limit = leb→le budget 1000000 (u .0);
+        long₀ = long;
+        long = long;
+        whole = whole;
+        formed = formed m₀ (true-of (wellFormed m₀) (u .1));
+      }
+    where
+      true-of : (b : Bool) → T b → b ≡ true
+      true-of true t = refl
+      true-of false t = absurd t
+
+  -- what the next step makes of a run with budget left
+  run-step : (left : ℕ) (mem : List ℕ) (m : Machine) (n c : ℕ) (s : Stepped) → stepOf mem m ≡ s →
+      runFrom (suc left) mem m n c ≡
+      elim s as (λ x. After) [
+        | refused number ↦ ended number mem m n c
+        | done mem′ m′ cost ↦ runFrom left mem′ m′ (suc n) (c + cost)
+      ]
+  unfolding runFrom
+  run-step left mem m n c s e = rw (e, runFrom)
+
+  -- a step that is carried out
+  pub advances : (mem : List ℕ) (m : Machine) (n c : ℕ) (mem′ : List ℕ) (m′ : Machine) (cost n′ c′ : ℕ) →
+      Here mem₀ m₀ budget mem m n c → n < budget → stepOf mem m ≡ done mem′ m′ cost → n′ ≡ n + 1 → c′ ≡ c + cost →
+      Here mem₀ m₀ budget mem′ m′ n′ c′
+  advances mem m n c mem′ m′ cost n′ c′ h less e en ec =
+      let good = step-kept mem m mem′ m′ cost (h .whole) (h .formed) e in
+      let d = step-done mem m mem′ m′ cost e in
+      let paid = cost-bounded (instructionAt mem (m .counter)) m in
+      let left : budget - n ≡ suc (budget - n′) = omega arith in
+      let count : suc n ≡ n′ = omega arith in
+      let k = d .cost in
+      record {
+        same =
+            h .same ∙
+            (ap (λ (x : ℕ). runFrom x mem m n c) left ∙
+            (run-step (budget - n′) mem m n c (done mem′ m′ cost) e ∙
+            (ap (λ (x : ℕ). runFrom (budget - n′) mem′ m′ x (c + cost)) count ∙
+            ap (λ (x : ℕ). runFrom (budget - n′) mem′ m′ n′ x) (sym ec))));
+        within = omega arith;
+        priced = omega (arith, k, paid);
+        limit = h .limit;
+        long₀ = h .long₀;
+        long = good .same-length ∙ h .long;
+        whole = good .whole;
+        formed = good .formed;
+      }
+
+  -- a refusal ends the run where it stands
+  pub stops : (mem : List ℕ) (m : Machine) (n c number : ℕ) → Here mem₀ m₀ budget mem m n c → n < budget →
+      stepOf mem m ≡ refused number → ended number mem m n c ≡ runFrom budget mem₀ m₀ 0 0
+  stops mem m n c number h less e =
+      let left : budget - n ≡ suc (budget - n - 1) = omega arith in
+      sym
+      (h .same ∙ (ap (λ (x : ℕ). runFrom x mem m n c) left ∙ run-step (budget - n - 1) mem m n c (refused number) e))
+
+  -- a spent budget ends the run
+  pub spends : (mem : List ℕ) (m : Machine) (n c : ℕ) → Here mem₀ m₀ budget mem m n c → budget ≤ n →
+      ended 1 mem m n c ≡ runFrom budget mem₀ m₀ 0 0
+  unfolding runFrom
+  spends mem m n c h over =
+      let left : budget - n ≡ 0 = omega arith in
+      sym (h .same ∙ ap (λ (x : ℕ). runFrom x mem m n c) left)

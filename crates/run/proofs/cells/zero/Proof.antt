@@ -1,0 +1,16 @@
+-- A zero is pushed.
+use Rattle.run.proofs.Pushes.{zero-pushed}
+use native.Mathlib.Omega.{arith}
+use borrow.Author.Needs.{needs}
+use Rattle.run.proofs.cells.zero.Statement.{statement}
+use Rattle.run.proofs.cells.zero.Tie as tie
+
+push-requires : tie.Need-push-requires
+push-requires c κs = search needs
+
+returns : tie.Need-returns
+returns c =
+    let a = c .before .before .args in rw (c .push .ensures .0, c .push .ensures .1) (λ operand. zero-pushed operand (a .next) (a .cells .now) (a .p) (a .flag) (omega arith))
+
+pub zero-spec : {M : Type 1} → statement M
+zero-spec = tie.close (tie.spec push-requires returns)

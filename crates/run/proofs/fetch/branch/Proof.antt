@@ -1,0 +1,57 @@
+-- Both branches are two bytes; the target wraps.
+use Rattle.run.proofs.Fetching.{branch-cut, branch-whole}
+use native.Mathlib.Omega.{arith}
+use mathlib.Core.Path.{_∙_, ap, sym}
+use Prim.Native.Nat.{ℕ, _+_, _*_, _%_, _^_}
+use Rattle.machine.specs.Memory.{byteAt}
+use Rattle.machine.specs.Fetch.{extended}
+use borrow.Author.Needs.{needs}
+use Rattle.run.proofs.fetch.branch.Statement.{statement}
+use Rattle.run.proofs.fetch.branch.Tie as tie
+
+add-if1 : tie.Need-add-if1
+add-if1 c = search needs
+
+returns : tie.Need-returns
+returns c =
+    let a = c .before .before .args in branch-cut (a .mem .now) (a .at) (a .code) (c .before .before .pre .1 .1 .1) (omega arith) (omega arith) (c .if1 .taken)
+
+add-next : tie.Need-add-next
+add-next c = search needs
+
+cast-next : tie.Need-cast-next
+cast-next c = search needs
+
+add-branch-offset : tie.Need-add-branch-offset
+add-branch-offset c = search needs
+
+shared-slice-read-branch-offset : tie.Need-shared-slice-read-branch-offset
+shared-slice-read-branch-offset c = search needs
+
+branch-offset-requires : tie.Need-branch-offset-requires
+branch-offset-requires c κs = search needs
+
+wrapping-add-u32-requires : tie.Need-wrapping-add-u32-requires
+wrapping-add-u32-requires c κs = search needs
+
+returns-2 : tie.Need-returns-2
+returns-2 c =
+    let a = c .before .before .before .before .before .args in
+    branch-whole (a .mem .now) (a .at) (a .code) (c .before .before .before .before .before .pre .1 .1 .1) (omega arith) (omega arith) (c .wrapping-add-u32 .result) (omega arith)
+    (c .wrapping-add-u32 .ensures ∙
+    ap (λ (x : ℕ). (a .at + 2 + x) % 2 ^ 32) (c .before .branch-offset .ensures) ∙
+    ap (λ (x : ℕ). (a .at + 2 + extended (x % 2 ^ 6 * 2 ^ 8 + byteAt (a .mem .now) (a .at + 1))) % 2 ^ 32) (sym (c .before .before .before .before .before .pre .1 .1 .1)))
+
+pub branch-spec : {M : Type 1} → statement M
+branch-spec =
+    tie.close
+    (tie.spec
+    add-if1
+    returns
+    add-next
+    cast-next
+    add-branch-offset
+    shared-slice-read-branch-offset
+    branch-offset-requires
+    wrapping-add-u32-requires
+    returns-2)

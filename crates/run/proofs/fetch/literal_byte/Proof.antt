@@ -1,0 +1,39 @@
+-- The code's entry says how many bytes follow.
+use Rattle.run.proofs.Fetching.{cut, whole}
+use mathlib.Core.Path.{refl}
+use native.Mathlib.Omega.{arith}
+use Rattle.machine.specs.Codes.{entryAt, table, LITERAL}
+use Rattle.machine.specs.declared.Width.the-variants.{Byte}
+use borrow.Author.Needs.{needs}
+use Rattle.run.proofs.fetch.literal_byte.Statement.{statement}
+use Rattle.run.proofs.fetch.literal_byte.Tie as tie
+
+add-if1 : tie.Need-add-if1
+add-if1 c = search needs
+
+returns : tie.Need-returns
+unfolding entryAt table
+returns c =
+    let a = c .before .before .args in λ stands. cut (a .mem .now) (a .at) 0x34 (LITERAL Byte) 2 0 1 2 stands refl (omega arith) (c .if1 .taken)
+
+add-literal-byte : tie.Need-add-literal-byte
+add-literal-byte c = search needs
+
+literal-byte-requires : tie.Need-literal-byte-requires
+literal-byte-requires c κs = search needs
+
+add-t6 : tie.Need-add-t6
+add-t6 c = search needs
+
+cast-t7 : tie.Need-cast-t7
+cast-t7 c = search needs
+
+returns-2 : tie.Need-returns-2
+unfolding entryAt table
+returns-2 c =
+    let a = c .before .before .before .args in λ stands. whole (a .mem .now) (a .at) 0x34 (LITERAL Byte) 2 0 1 2 stands refl (omega arith) (c .literal-byte .result) (omega arith) (c .literal-byte .ensures)
+
+pub literal-byte-spec : {M : Type 1} → statement M
+literal-byte-spec =
+    tie.close
+    (tie.spec add-if1 returns add-literal-byte literal-byte-requires add-t6 cast-t7 returns-2)

@@ -1,0 +1,34 @@
+-- Below 80 a code that no bytes follow is one byte.
+use Rattle.run.proofs.Fetching.{whole}
+use Rattle.run.proofs.OneByte.{entry-one, operand-none}
+use Rattle.machine.specs.Codes.{entryAt}
+use Prim.Native.Nat.{_<_}
+use native.Mathlib.Omega.{arith}
+use mathlib.Core.Path.{sym}
+use borrow.Author.Needs.{needs}
+use Rattle.run.proofs.fetch.plain.Statement.{statement}
+use Rattle.run.proofs.fetch.plain.Tie as tie
+
+branch-requires : tie.Need-branch-requires
+branch-requires c κs = search needs
+
+returns : tie.Need-returns
+returns c = search needs
+
+add-t5 : tie.Need-add-t5
+add-t5 c = search needs
+
+cast-t6 : tie.Need-cast-t6
+cast-t6 c = search needs
+
+returns-2 : tie.Need-returns-2
+returns-2 c =
+    let a = c .before .before .args in
+    let o = c .before .before .pre .1 .1 .0 in
+    let low : a .code < 0x80 = omega arith in
+    whole (a .mem .now) (a .at) (a .code) (entryAt (a .code) .op) 1 (entryAt (a .code) .takes) (entryAt (a .code) .puts)
+    (entryAt (a .code) .cycles) (c .before .before .pre .1 .1 .1) (entry-one (a .code) low o) (omega arith) 0 (omega arith)
+    (sym (operand-none (a .code) low o (a .mem .now) (a .at)))
+
+pub plain-spec : {M : Type 1} → statement M
+plain-spec = tie.close (tie.spec branch-requires returns add-t5 cast-t6 returns-2)

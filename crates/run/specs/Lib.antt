@@ -1,0 +1,5 @@
+pub mod Promises
+pub mod Accesses
+pub mod Verdicts
+pub mod Numbers
+pub mod Settled

@@ -1,0 +1,229 @@
+// Instructions on the parameter cells. P is the depth; a pop leaves the old value in its cell.
+use crate::Done;
+use crate::Stack;
+use word::OneCell;
+use word::Outcome;
+use word::TwoCells;
+ghost use mathlib.Core.Path.{_≡_};
+ghost use Prim.Native.Nat.{ℕ, _≤_};
+ghost use Rattle.machine.specs.Codes.{NOP, DROP, DUP, SWAP, OVER, NIP, ROT, PSP-AT, ZERO, DUP-NONZERO, ONE, TWO, LITERAL};
+ghost use Rattle.machine.specs.declared.Width.{Width};
+ghost use Rattle.run.specs.Promises.{Meets, pushed, pushedCells};
+
+// ( -- value )
+fn push(cells: &mut [u32; 64], value: u32, p: usize, flag: u32, next: u32) -> Done
+    requires { ⌜ p ≤ 64 ⌝ }
+    ensures { λ r. ⌜ (r ≡ pushed p flag next) × (now (cells .exit) ≡ pushedCells (now (cells .entry)) p value) ⌝ }
+{
+    if 63 < p {
+        return Done::Refused(8);
+    }
+    cells[p] = value;
+    Done::Went(Stack {
+        p: p + 1,
+        flag,
+        counter: next,
+    })
+}
+
+// ( -- ) NOP
+pub(crate) fn nothing(cells: &mut [u32; 64], p: usize, flag: u32, next: u32) -> Done
+    requires { ⌜ p ≤ 64 ⌝ }
+    ensures { λ r. ⌜ ((operand : ℕ) → Meets NOP 0 operand next (now (cells .entry)) p flag (now (cells .exit)) r) ⌝ }
+{
+    Done::Went(Stack {
+        p,
+        flag,
+        counter: next,
+    })
+}
+
+// ( x -- )
+pub(crate) fn discard(cells: &mut [u32; 64], p: usize, flag: u32, next: u32) -> Done
+    requires { ⌜ p ≤ 64 ⌝ }
+    ensures { λ r. ⌜ ((operand : ℕ) → Meets DROP 1 operand next (now (cells .entry)) p flag (now (cells .exit)) r) ⌝ }
+{
+    if p < 1 {
+        return Done::Refused(5);
+    }
+    Done::Went(Stack {
+        p: p - 1,
+        flag,
+        counter: next,
+    })
+}
+
+// ( x -- x x )
+pub(crate) fn dup(cells: &mut [u32; 64], p: usize, flag: u32, next: u32) -> Done
+    requires { ⌜ p ≤ 64 ⌝ }
+    ensures { λ r. ⌜ ((operand : ℕ) → Meets DUP 1 operand next (now (cells .entry)) p flag (now (cells .exit)) r) ⌝ }
+{
+    if p < 1 {
+        return Done::Refused(5);
+    }
+    let x = cells[p - 1];
+    push(cells, x, p, flag, next)
+}
+
+// ( x y -- y x )
+pub(crate) fn swap(cells: &mut [u32; 64], p: usize, flag: u32, next: u32) -> Done
+    requires { ⌜ p ≤ 64 ⌝ }
+    ensures { λ r. ⌜ ((operand : ℕ) → Meets SWAP 2 operand next (now (cells .entry)) p flag (now (cells .exit)) r) ⌝ }
+{
+    if p < 2 {
+        return Done::Refused(5);
+    }
+    let x = cells[p - 2];
+    let y = cells[p - 1];
+    cells[p - 2] = y;
+    cells[p - 1] = x;
+    Done::Went(Stack {
+        p,
+        flag,
+        counter: next,
+    })
+}
+
+// ( x y -- x y x )
+pub(crate) fn over(cells: &mut [u32; 64], p: usize, flag: u32, next: u32) -> Done
+    requires { ⌜ p ≤ 64 ⌝ }
+    ensures { λ r. ⌜ ((operand : ℕ) → Meets OVER 2 operand next (now (cells .entry)) p flag (now (cells .exit)) r) ⌝ }
+{
+    if p < 2 {
+        return Done::Refused(5);
+    }
+    let x = cells[p - 2];
+    push(cells, x, p, flag, next)
+}
+
+// ( x y -- y )
+pub(crate) fn nip(cells: &mut [u32; 64], p: usize, flag: u32, next: u32) -> Done
+    requires { ⌜ p ≤ 64 ⌝ }
+    ensures { λ r. ⌜ ((operand : ℕ) → Meets NIP 2 operand next (now (cells .entry)) p flag (now (cells .exit)) r) ⌝ }
+{
+    if p < 2 {
+        return Done::Refused(5);
+    }
+    let y = cells[p - 1];
+    cells[p - 2] = y;
+    Done::Went(Stack {
+        p: p - 1,
+        flag,
+        counter: next,
+    })
+}
+
+// ( x y z -- y z x )
+pub(crate) fn rot(cells: &mut [u32; 64], p: usize, flag: u32, next: u32) -> Done
+    requires { ⌜ p ≤ 64 ⌝ }
+    ensures { λ r. ⌜ ((operand : ℕ) → Meets ROT 3 operand next (now (cells .entry)) p flag (now (cells .exit)) r) ⌝ }
+{
+    if p < 3 {
+        return Done::Refused(5);
+    }
+    let x = cells[p - 3];
+    let y = cells[p - 2];
+    let z = cells[p - 1];
+    cells[p - 3] = y;
+    cells[p - 2] = z;
+    cells[p - 1] = x;
+    Done::Went(Stack {
+        p,
+        flag,
+        counter: next,
+    })
+}
+
+// ( -- P ) PSP@
+pub(crate) fn depth(cells: &mut [u32; 64], p: usize, flag: u32, next: u32) -> Done
+    requires { ⌜ p ≤ 64 ⌝ }
+    ensures { λ r. ⌜ ((operand : ℕ) → Meets PSP-AT 0 operand next (now (cells .entry)) p flag (now (cells .exit)) r) ⌝ }
+{
+    push(cells, p as u32, p, flag, next)
+}
+
+// ( -- 0 )
+pub(crate) fn zero(cells: &mut [u32; 64], p: usize, flag: u32, next: u32) -> Done
+    requires { ⌜ p ≤ 64 ⌝ }
+    ensures { λ r. ⌜ ((operand : ℕ) → Meets ZERO 0 operand next (now (cells .entry)) p flag (now (cells .exit)) r) ⌝ }
+{
+    push(cells, 0, p, flag, next)
+}
+
+// ( -- operand ) the literals
+pub(crate) fn literal(cells: &mut [u32; 64], operand: u32, p: usize, flag: u32, next: u32) -> Done
+    requires { ⌜ p ≤ 64 ⌝ }
+    ensures { λ r. ⌜ ((w : Width) → Meets (LITERAL w) 0 operand next (now (cells .entry)) p flag (now (cells .exit)) r) ⌝ }
+{
+    push(cells, operand, p, flag, next)
+}
+
+// ( x -- x x | 0 )
+pub(crate) fn dup_nonzero(cells: &mut [u32; 64], p: usize, flag: u32, next: u32) -> Done
+    requires { ⌜ p ≤ 64 ⌝ }
+    ensures { λ r. ⌜ ((operand : ℕ) → Meets DUP-NONZERO 1 operand next (now (cells .entry)) p flag (now (cells .exit)) r) ⌝ }
+{
+    if p < 1 {
+        return Done::Refused(5);
+    }
+    let x = cells[p - 1];
+    if x == 0 {
+        return Done::Went(Stack {
+            p,
+            flag,
+            counter: next,
+        });
+    }
+    push(cells, x, p, flag, next)
+}
+
+// ( x -- value ) arithmetic on one cell
+pub(crate) fn one(cells: &mut [u32; 64], op: OneCell, p: usize, flag: u32, next: u32) -> Done
+    requires { ⌜ p ≤ 64 ⌝ }
+    ensures { λ r. ⌜ ((operand : ℕ) → Meets (ONE op) 1 operand next (now (cells .entry)) p flag (now (cells .exit)) r) ⌝ }
+{
+    if p < 1 {
+        return Done::Refused(5);
+    }
+    let x = cells[p - 1];
+    let changed = word::one_cell(op, x, flag);
+    cells[p - 1] = changed.value;
+    Done::Went(Stack {
+        p,
+        flag: changed.flag,
+        counter: next,
+    })
+}
+
+// ( x y -- value ) or ( x y -- under top ) arithmetic on two cells
+pub(crate) fn two(cells: &mut [u32; 64], op: TwoCells, p: usize, flag: u32, next: u32) -> Done
+    requires { ⌜ p ≤ 64 ⌝ }
+    ensures { λ r. ⌜ ((operand : ℕ) → Meets (TWO op) 2 operand next (now (cells .entry)) p flag (now (cells .exit)) r) ⌝ }
+{
+    if p < 2 {
+        return Done::Refused(5);
+    }
+    let x = cells[p - 2];
+    let y = cells[p - 1];
+    let outcome = word::two_cells(op, x, y, flag);
+    match outcome {
+        Outcome::Single(value, after) => {
+            cells[p - 2] = value;
+            Done::Went(Stack {
+                p: p - 1,
+                flag: after,
+                counter: next,
+            })
+        }
+        Outcome::Double(under, top, after) => {
+            cells[p - 2] = under;
+            cells[p - 1] = top;
+            Done::Went(Stack {
+                p,
+                flag: after,
+                counter: next,
+            })
+        }
+        Outcome::DivisorZero => Done::Refused(13),
+    }
+}

@@ -1,0 +1,120 @@
+// The tests before an action on the linked stacks, each with its number, in the order of the numbers.
+use crate::Checked;
+use crate::Thrown;
+ghost use mathlib.Core.Path.{_≡_};
+ghost use Prim.Native.Nat.{_≤_};
+ghost use Rattle.run.specs.Verdicts.{pushable, readable, callable, catchable, throwable, sAfterPop, eAfterPop, eAfterDropOf};
+
+// >R
+pub(crate) fn can_push(p: usize, r: usize) -> Checked
+    ensures { λ c. ⌜ c ≡ pushable p r ⌝ }
+{
+    if p < 1 {
+        return Checked::Refused(5);
+    }
+    if 64 <= r {
+        return Checked::Refused(9);
+    }
+    Checked::Fine
+}
+
+// R@ and R>
+pub(crate) fn can_read(p: usize, r: usize) -> Checked
+    ensures { λ c. ⌜ c ≡ readable p r ⌝ }
+{
+    if r == 0 {
+        return Checked::Refused(6);
+    }
+    if 63 < p {
+        return Checked::Refused(8);
+    }
+    Checked::Fine
+}
+
+// JSL takes no cell, JSR one
+pub(crate) fn can_call(takes: usize, p: usize, r: usize, s: usize) -> Checked
+    ensures { λ c. ⌜ c ≡ callable takes p r s ⌝ }
+{
+    if p < takes {
+        return Checked::Refused(5);
+    }
+    if 64 <= r {
+        return Checked::Refused(9);
+    }
+    if 32 <= s {
+        return Checked::Refused(10);
+    }
+    Checked::Fine
+}
+
+pub(crate) fn can_catch(p: usize, r: usize, s: usize, e: usize) -> Checked
+    ensures { λ c. ⌜ c ≡ catchable p r s e ⌝ }
+{
+    if p < 1 {
+        return Checked::Refused(5);
+    }
+    if 64 <= r {
+        return Checked::Refused(9);
+    }
+    if 32 <= s {
+        return Checked::Refused(10);
+    }
+    if 8 <= e {
+        return Checked::Refused(11);
+    }
+    Checked::Fine
+}
+
+// THROW of 0 needs no exception level
+pub(crate) fn can_throw(cells: &[u32; 64], p: usize, e: usize) -> Thrown
+    requires { ⌜ p ≤ 64 ⌝ }
+    ensures { λ c. ⌜ c ≡ throwable (now (cells .entry)) p e ⌝ }
+{
+    if p < 1 {
+        return Thrown::Refused(5);
+    }
+    let n = cells[p - 1];
+    if n == 0 {
+        return Thrown::Nothing;
+    }
+    if e == 0 {
+        return Thrown::Refused(7);
+    }
+    Thrown::Code(n)
+}
+
+// S after R>, R being lowered already: the top level goes if R is not greater than its copy.
+pub(crate) fn s_after_pop(r: usize, s: usize, copy: usize) -> usize
+    ensures { λ n. ⌜ n ≡ sAfterPop r s copy ⌝ }
+{
+    if s == 0 {
+        return s;
+    }
+    if r <= copy {
+        return s - 1;
+    }
+    s
+}
+
+// E after a subroutine level was dropped to s: the top level goes if s is not greater than its copy.
+pub(crate) fn e_after_drop(s: usize, e: usize, copy: usize) -> usize
+    ensures { λ n. ⌜ n ≡ eAfterDropOf s e copy ⌝ }
+{
+    if e == 0 {
+        return e;
+    }
+    if s <= copy {
+        return e - 1;
+    }
+    e
+}
+
+// E after R>: nothing goes unless S was lowered.
+pub(crate) fn e_after_pop(lower: usize, s: usize, e: usize, copy: usize) -> usize
+    ensures { λ n. ⌜ n ≡ eAfterPop lower s e copy ⌝ }
+{
+    if lower < s {
+        return e_after_drop(lower, e, copy);
+    }
+    e
+}

@@ -1,0 +1,83 @@
+// The instructions that touch the parameter cells alone, by code.
+use crate::Done;
+use crate::cells;
+use crate::jumps;
+use word::OneCell;
+use word::TwoCells;
+ghost use Prim.Native.Nat.{_≤_};
+ghost use Rattle.run.specs.Promises.{Carries, Unlinked, Unlisted};
+
+// Branches; every code that is left is unknown.
+fn others(code: u8, operand: u32, next: u32, cells: &mut [u32; 64], p: usize, flag: u32) -> Done
+    requires { ⌜ (p ≤ 64) × Unlisted code ⌝ }
+    ensures { λ r. ⌜ Carries code operand next (now (cells .entry)) p flag (now (cells .exit)) r ⌝ }
+{
+    if 0xBF < code {
+        return jumps::branch(cells, operand, p, flag, next);
+    }
+    if 0x7F < code {
+        return jumps::branch_on_zero(cells, operand, p, flag, next);
+    }
+    Done::Refused(4)
+}
+
+// Every code but those that the linked stacks, memory and the cells in view have a part in.
+pub(crate) fn on_cells(
+    code: u8,
+    operand: u32,
+    next: u32,
+    cells: &mut [u32; 64],
+    p: usize,
+    flag: u32,
+) -> Done
+    requires { ⌜ (p ≤ 64) × Unlinked code ⌝ }
+    ensures { λ r. ⌜ Carries code operand next (now (cells .entry)) p flag (now (cells .exit)) r ⌝ }
+{
+    match code {
+        0x00 => cells::nothing(cells, p, flag, next),
+        0x01 => cells::discard(cells, p, flag, next),
+        0x02 => cells::dup(cells, p, flag, next),
+        0x03 => cells::swap(cells, p, flag, next),
+        0x04 => cells::over(cells, p, flag, next),
+        0x05 => cells::nip(cells, p, flag, next),
+        0x06 => cells::rot(cells, p, flag, next),
+        0x0A => cells::depth(cells, p, flag, next),
+        0x0E => cells::two(cells, TwoCells::Plus, p, flag, next),
+        0x0F => cells::two(cells, TwoCells::Minus, p, flag, next),
+        0x10 => cells::one(cells, OneCell::Negate, p, flag, next),
+        0x11 => cells::one(cells, OneCell::Increment, p, flag, next),
+        0x12 => cells::one(cells, OneCell::Decrement, p, flag, next),
+        0x13 => cells::one(cells, OneCell::Halve, p, flag, next),
+        0x14 => cells::two(cells, TwoCells::AddExtended, p, flag, next),
+        0x15 => cells::two(cells, TwoCells::SubtractExtended, p, flag, next),
+        0x16 => cells::two(cells, TwoCells::Equal, p, flag, next),
+        0x17 => cells::two(cells, TwoCells::Unequal, p, flag, next),
+        0x18 => cells::two(cells, TwoCells::Less, p, flag, next),
+        0x19 => cells::two(cells, TwoCells::Greater, p, flag, next),
+        0x1A => cells::two(cells, TwoCells::Below, p, flag, next),
+        0x1B => cells::two(cells, TwoCells::Above, p, flag, next),
+        0x1C => cells::one(cells, OneCell::ZeroEqual, p, flag, next),
+        0x1D => cells::one(cells, OneCell::ZeroUnequal, p, flag, next),
+        0x1E => cells::one(cells, OneCell::ZeroLess, p, flag, next),
+        0x1F => cells::one(cells, OneCell::ZeroGreater, p, flag, next),
+        0x20 => cells::zero(cells, p, flag, next),
+        0x21 => cells::two(cells, TwoCells::AndBits, p, flag, next),
+        0x22 => cells::two(cells, TwoCells::OrBits, p, flag, next),
+        0x23 => cells::one(cells, OneCell::Invert, p, flag, next),
+        0x24 => cells::two(cells, TwoCells::XorBits, p, flag, next),
+        0x25 => cells::one(cells, OneCell::ShiftLeft, p, flag, next),
+        0x26 => cells::one(cells, OneCell::ShiftRight, p, flag, next),
+        0x27 => cells::one(cells, OneCell::ExtendByte, p, flag, next),
+        0x28 => cells::one(cells, OneCell::ExtendWord, p, flag, next),
+        0x29 => cells::two(cells, TwoCells::MultiplySigned, p, flag, next),
+        0x2A => cells::two(cells, TwoCells::MultiplyUnsigned, p, flag, next),
+        0x2B => cells::two(cells, TwoCells::DivideSigned, p, flag, next),
+        0x2C => cells::two(cells, TwoCells::DivideUnsigned, p, flag, next),
+        0x33 => cells::dup_nonzero(cells, p, flag, next),
+        0x34 => cells::literal(cells, operand, p, flag, next),
+        0x35 => cells::literal(cells, operand, p, flag, next),
+        0x36 => cells::literal(cells, operand, p, flag, next),
+        0x37 => jumps::jump(cells, p, flag, next),
+        _ => others(code, operand, next, cells, p, flag),
+    }
+}

@@ -1,0 +1,63 @@
+// Instructions that go somewhere and touch no linked stack.
+use crate::Done;
+use crate::Stack;
+ghost use Prim.Native.Nat.{ℕ, _≤_};
+ghost use Rattle.machine.specs.Codes.{JMP, BEQ, BRA};
+ghost use Rattle.run.specs.Promises.{Meets};
+
+// ( address -- )
+pub(crate) fn jump(cells: &mut [u32; 64], p: usize, flag: u32, next: u32) -> Done
+    requires { ⌜ p ≤ 64 ⌝ }
+    ensures { λ r. ⌜ ((operand : ℕ) → Meets JMP 1 operand next (now (cells .entry)) p flag (now (cells .exit)) r) ⌝ }
+{
+    if p < 1 {
+        return Done::Refused(5);
+    }
+    let to = cells[p - 1];
+    Done::Went(Stack {
+        p: p - 1,
+        flag,
+        counter: to,
+    })
+}
+
+// ( x -- ) BEQ
+pub(crate) fn branch_on_zero(
+    cells: &mut [u32; 64],
+    operand: u32,
+    p: usize,
+    flag: u32,
+    next: u32,
+) -> Done
+    requires { ⌜ p ≤ 64 ⌝ }
+    ensures { λ r. ⌜ Meets BEQ 1 operand next (now (cells .entry)) p flag (now (cells .exit)) r ⌝ }
+{
+    if p < 1 {
+        return Done::Refused(5);
+    }
+    let x = cells[p - 1];
+    if x == 0 {
+        return Done::Went(Stack {
+            p: p - 1,
+            flag,
+            counter: operand,
+        });
+    }
+    Done::Went(Stack {
+        p: p - 1,
+        flag,
+        counter: next,
+    })
+}
+
+// ( -- ) BRA
+pub(crate) fn branch(cells: &mut [u32; 64], operand: u32, p: usize, flag: u32, next: u32) -> Done
+    requires { ⌜ p ≤ 64 ⌝ }
+    ensures { λ r. ⌜ Meets BRA 0 operand next (now (cells .entry)) p flag (now (cells .exit)) r ⌝ }
+{
+    Done::Went(Stack {
+        p,
+        flag,
+        counter: operand,
+    })
+}

@@ -1,0 +1,60 @@
+// Where an access lies.
+use machine::Place;
+use machine::Width;
+ghost use mathlib.Core.Path.{_≡_};
+ghost use Prim.Native.Nat.{_+_, _-_, _/_, _<_, _≤_, _^_};
+ghost use lib.Dec.{leb};
+ghost use Rattle.links.specs.Choice.{pick};
+ghost use Rattle.machine.specs.Memory.{placeOf, stands};
+ghost use Rattle.machine.specs.declared.Place.the-variants.{Memory, Local, Cell, Nowhere};
+ghost use Rattle.machine.specs.declared.Width.the-variants.{Long};
+
+fn in_memory(at: usize, size: usize) -> Place
+    requires { ⌜ (at < 2 ^ 32) × (size ≤ 4) ⌝ }
+    ensures { λ r. ⌜ r ≡ pick (leb (at + size) 32768) (Memory at) Nowhere ⌝ }
+{
+    if at + size <= 32768 {
+        return Place::Memory(at);
+    }
+    Place::Nowhere
+}
+
+fn cell_at(at: usize) -> Place
+    ensures { λ r. ⌜ r ≡ pick (stands 0x10000 0x1003C at) (Local ((at - 0x10000) / 4)) (pick (stands 0x10040 0x1005C at) (Cell ((at - 0x10040) / 4)) Nowhere) ⌝ }
+{
+    if at < 0x10000 {
+        return Place::Nowhere;
+    }
+    if 0x1005C < at {
+        return Place::Nowhere;
+    }
+    if at % 4 != 0 {
+        return Place::Nowhere;
+    }
+    if at <= 0x1003C {
+        return Place::Local((at - 0x10000) / 4);
+    }
+    Place::Cell((at - 0x10040) / 4)
+}
+
+// In memory, in a local cell, in an exception cell or nowhere: the one place where an access is judged.
+pub(crate) fn place_of(width: Width, address: u32) -> Place
+    ensures { λ r. ⌜ r ≡ placeOf width address ⌝ }
+{
+    let at = address as usize;
+    match width {
+        Width::Byte => in_memory(at, 1),
+        Width::Word => in_memory(at, 2),
+        Width::Long => long_place(at),
+    }
+}
+
+fn long_place(at: usize) -> Place
+    requires { ⌜ at < 2 ^ 32 ⌝ }
+    ensures { λ r. ⌜ r ≡ placeOf Long at ⌝ }
+{
+    if at + 4 <= 32768 {
+        return Place::Memory(at);
+    }
+    cell_at(at)
+}

@@ -1,0 +1,4 @@
+pub mod Wrapped
+pub mod Signs
+pub mod Parts
+pub mod Extended

@@ -1,0 +1,15 @@
+-- A result is right where its parts are.
+-- Assumes nothing.
+use mathlib.Core.Path.{_≡_}
+use Prim.Native.Nat.{ℕ}
+use Rattle.word.specs.declared.Changed.{Changed}
+use Rattle.word.specs.declared.Outcome.the-variants.{Single, Double}
+
+pub changed : {v w f g : ℕ} → v ≡ w → f ≡ g → _≡_ {A = Changed} (record { value = v; flag = f }) (record { value = w; flag = g })
+changed p q = λ i. record { value = p i; flag = q i }
+
+pub single : {v w f g : ℕ} → v ≡ w → f ≡ g → Single v f ≡ Single w g
+single p q = λ i. Single (p i) (q i)
+
+pub double : {u v w x f : ℕ} → u ≡ v → w ≡ x → Double u w f ≡ Double v x f
+double {f = f} p q = λ i. Double (p i) (q i) f

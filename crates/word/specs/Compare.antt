@@ -1,0 +1,53 @@
+-- Comparisons of cells: a truth cell, and the flag as it came.
+-- Assumes nothing.
+use Prim.Native.Nat.{ℕ, _+_, _^_, _%_}
+use mathlib.Core.Bool.{not}
+use lib.Dec.{ltb, eqb}
+use Rattle.word.specs.Truth.{truthOf}
+use Rattle.word.specs.declared.Changed.{Changed}
+use Rattle.word.specs.declared.Outcome.{Outcome}
+use Rattle.word.specs.declared.Outcome.the-variants.{Single}
+
+-- half the range added: the signed order of cells is the plain order of these
+abbrev pub lifted : ℕ → ℕ
+lifted x = (x + 2 ^ 31) % 2 ^ 32
+
+-- =
+abbrev pub equalOf : ℕ → ℕ → ℕ → Outcome
+equalOf x y flag = Single (truthOf (eqb x y)) flag
+
+-- <>
+abbrev pub unequalOf : ℕ → ℕ → ℕ → Outcome
+unequalOf x y flag = Single (truthOf (not (eqb x y))) flag
+
+-- <
+abbrev pub lessOf : ℕ → ℕ → ℕ → Outcome
+lessOf x y flag = Single (truthOf (ltb (lifted x) (lifted y))) flag
+
+-- >
+abbrev pub greaterOf : ℕ → ℕ → ℕ → Outcome
+greaterOf x y flag = Single (truthOf (ltb (lifted y) (lifted x))) flag
+
+-- U<
+abbrev pub belowOf : ℕ → ℕ → ℕ → Outcome
+belowOf x y flag = Single (truthOf (ltb x y)) flag
+
+-- U>
+abbrev pub aboveOf : ℕ → ℕ → ℕ → Outcome
+aboveOf x y flag = Single (truthOf (ltb y x)) flag
+
+-- 0=
+abbrev pub zeroEqualOf : ℕ → ℕ → Changed
+zeroEqualOf x flag = record { value = truthOf (eqb x 0); flag = flag }
+
+-- 0<>
+abbrev pub zeroUnequalOf : ℕ → ℕ → Changed
+zeroUnequalOf x flag = record { value = truthOf (not (eqb x 0)); flag = flag }
+
+-- 0<
+abbrev pub zeroLessOf : ℕ → ℕ → Changed
+zeroLessOf x flag = record { value = truthOf (ltb (lifted x) (lifted 0)); flag = flag }
+
+-- 0>
+abbrev pub zeroGreaterOf : ℕ → ℕ → Changed
+zeroGreaterOf x flag = record { value = truthOf (ltb (lifted 0) (lifted x)); flag = flag }

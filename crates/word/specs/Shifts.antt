@@ -1,0 +1,24 @@
+-- Shifts by one place, and sign extension; the flag stays as it came.
+-- Assumes nothing.
+use Prim.Native.Nat.{ℕ, _+_, _-_, _*_, _/_, _^_, _%_}
+use Rattle.word.specs.declared.Changed.{Changed}
+
+-- 2/: bit 31 stays and is copied into bit 30
+abbrev pub halveOf : ℕ → ℕ → Changed
+halveOf x flag = record { value = x / 2 + x / 2 ^ 31 * 2 ^ 31; flag = flag }
+
+-- LSL
+abbrev pub shiftLeftOf : ℕ → ℕ → Changed
+shiftLeftOf x flag = record { value = x * 2 % 2 ^ 32; flag = flag }
+
+-- LSR
+abbrev pub shiftRightOf : ℕ → ℕ → Changed
+shiftRightOf x flag = record { value = x / 2; flag = flag }
+
+-- XBYTE: the low byte, and bit 7 in each bit above it
+abbrev pub extendByteOf : ℕ → ℕ → Changed
+extendByteOf x flag = record { value = x % 2 ^ 8 + x / 2 ^ 7 % 2 * (2 ^ 32 - 2 ^ 8); flag = flag }
+
+-- XWORD: the low word, and bit 15 in each bit above it
+abbrev pub extendWordOf : ℕ → ℕ → Changed
+extendWordOf x flag = record { value = x % 2 ^ 16 + x / 2 ^ 15 % 2 * (2 ^ 32 - 2 ^ 16); flag = flag }
