@@ -209,14 +209,14 @@ module _ {mem₀ : List ℕ} {m₀ : Machine} {budget : ℕ} {x : Spot} {code op
   pop-again-at key fine lower e′ es ee n′ c′ en ec =
       subst⁻¹
       (λ (v : ℕ).
-        Here mem₀ m₀ budget (x .mem)
-        (machineOf (set (x .cells) (x .p) (getD (x .returns) (x .r - 1) 0)) (x .p + 1) (linksOf (x .returns) (x .r - 1) (x .frames) lower (x .levels) v) next (x .flag)) n′ c′)
+      Here mem₀ m₀ budget (x .mem)
+      (machineOf (set (x .cells) (x .p) (getD (x .returns) (x .r - 1) 0)) (x .p + 1) (linksOf (x .returns) (x .r - 1) (x .frames) lower (x .levels) v) next (x .flag)) n′ c′)
       ee
       (subst⁻¹
       (λ (v : ℕ).
-        Here mem₀ m₀ budget (x .mem)
-        (machineOf (set (x .cells) (x .p) (getD (x .returns) (x .r - 1) 0)) (x .p + 1)
-        (linksOf (x .returns) (x .r - 1) (x .frames) v (x .levels) (eAfterPop v (x .s) (x .e) (copyOfS (x .levels) (x .e)))) next (x .flag)) n′ c′)
+      Here mem₀ m₀ budget (x .mem)
+      (machineOf (set (x .cells) (x .p) (getD (x .returns) (x .r - 1) 0)) (x .p + 1)
+      (linksOf (x .returns) (x .r - 1) (x .frames) v (x .levels) (eAfterPop v (x .s) (x .e) (copyOfS (x .levels) (x .e)))) next (x .flag)) n′ c′)
       es
       (pop-again key fine n′ c′ en ec))
 
@@ -228,9 +228,9 @@ module _ {mem₀ : List ℕ} {m₀ : Machine} {budget : ℕ} {x : Spot} {code op
   exit-again-at key some e′ ee n′ c′ en ec =
       subst⁻¹
       (λ (v : ℕ).
-        Here mem₀ m₀ budget (x .mem)
-        (machineOf (x .cells) (x .p) (linksOf (x .returns) (copyOfR (x .frames) (x .s)) (x .frames) (x .s - 1) (x .levels) v)
-        (getD (x .frames) (x .s) noFrame .address) (x .flag)) n′ c′)
+      Here mem₀ m₀ budget (x .mem)
+      (machineOf (x .cells) (x .p) (linksOf (x .returns) (copyOfR (x .frames) (x .s)) (x .frames) (x .s - 1) (x .levels) v)
+      (getD (x .frames) (x .s) noFrame .address) (x .flag)) n′ c′)
       ee
       (exit-again key some n′ c′ en ec)
 
@@ -245,11 +245,11 @@ module _ {mem₀ : List ℕ} {m₀ : Machine} {budget : ℕ} {x : Spot} {code op
   catch-again-at key fine address ea n′ c′ en ec =
       subst⁻¹
       (λ (v : ℕ).
-        Here mem₀ m₀ budget (x .mem)
-        (machineOf (x .cells) (x .p - 1)
-        (linksOf (set (x .returns) (x .r) next) (x .r + 1) (set (x .frames) (x .s + 1) (calledFrame (x .r) next)) (x .s + 1)
-        (set (x .levels) (x .e + 1) (record { cells = getD (x .levels) (x .e) noLevel .cells; s = x .s; p = x .p - 1; address = v }))
-        (x .e + 1))
-        (getD (x .cells) (x .p - 1) 0) (x .flag)) n′ c′)
+      Here mem₀ m₀ budget (x .mem)
+      (machineOf (x .cells) (x .p - 1)
+      (linksOf (set (x .returns) (x .r) next) (x .r + 1) (set (x .frames) (x .s + 1) (calledFrame (x .r) next)) (x .s + 1)
+      (set (x .levels) (x .e + 1) (record { cells = getD (x .levels) (x .e) noLevel .cells; s = x .s; p = x .p - 1; address = v }))
+      (x .e + 1))
+      (getD (x .cells) (x .p - 1) 0) (x .flag)) n′ c′)
       ea
       (catch-again key fine n′ c′ en ec)

@@ -17,3 +17,4 @@ mod Facts
 mod Turning
 mod Arms
 mod Reaches
+mod Entry

@@ -45,10 +45,11 @@ module _ (op : Op) (k : known op ≡ true) (takes operand next : ℕ) (cells : L
       Meets op takes operand next cells p flag cells′ (Went (record { p = p′; flag = flag′; counter = goes }))
   unfolding carried
   went cells′ p′ h g same depth code bytes puts cycles e mem links counter =
-      let room : keeps + length values ≤ 64 = omega arith in
-      (rw
-      (e, plain code bytes puts cycles e mem links counter, k, le-ltb p takes h, le-ltb 64 (keeps + length values) room, same, depth),
-      tt)
+      let room : keeps + length values ≤ 64 = omega arith in (
+        rw
+            (e, plain code bytes puts cycles e mem links counter, k, le-ltb p takes h, le-ltb 64 (keeps + length values) room, same, depth),
+        tt,
+      )
 
   -- it is carried out by a push, unless P would pass 64
   pub by-push : (v : ℕ) → flag′ ≡ flag → goes ≡ next → takes ≤ p → p ≤ 64 →

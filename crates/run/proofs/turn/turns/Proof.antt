@@ -33,32 +33,31 @@ abbrev μ-loop : tie.MeasureT-loop
 abbrev at-loop : tie.At-loop Inv-loop μ-loop → Spot
 at-loop t =
     let l = t .loop in
-    record
-    { mem = l .mem
-    ; cells = l .cells
-    ; p = l .p
-    ; returns = l .returns
-    ; r = l .r
-    ; frames = l .frames
-    ; s = l .s
-    ; levels = l .levels
-    ; e = l .e
-    ; counter = l .counter
-    ; flag = l .flag
-    ; steps = l .steps
-    ; cycles = l .cycles
+    record {
+      mem = l .mem;
+      cells = l .cells;
+      p = l .p;
+      returns = l .returns;
+      r = l .r;
+      frames = l .frames;
+      s = l .s;
+      levels = l .levels;
+      e = l .e;
+      counter = l .counter;
+      flag = l .flag;
+      steps = l .steps;
+      cycles = l .cycles;
     }
 
 -- an instruction is fetched
 ready : (t : tie.After-known-told Inv-loop μ-loop) →
     Ready (t .before .before .before .before .before .before .before .before .before .before .before .before .before .before .args .mem .now) (t .before .before .before .before .before .before .before .before .before .before .before .before .before .before .args .start) (t .before .before .before .before .before .before .before .before .before .before .before .before .before .before .args .budget) (at-loop (t .before .before .before .before .before .before .before))
     (t .before .fetched .given .0 .0) (t .before .fetched .given .0 .1 .0) (t .before .fetched .given .0 .1 .1 .0)
-
 ready t =
-    record
-    { here = t .before .before .before .before .before .before .before .loop .inv .0
-    ; less = t .before .before .before .before .before .if1 .taken
-    ; fetched = sym (t .before .before .before .fetch .ensures) ∙ t .before .fetched .given .1
+    record {
+      here = t .before .before .before .before .before .before .before .loop .inv .0;
+      less = t .before .before .before .before .before .if1 .taken;
+      fetched = sym (t .before .before .before .fetch .ensures) ∙ t .before .fetched .given .1;
     }
 
 -- what no arm took is none of the linked codes

@@ -1,0 +1,64 @@
+-- Answer 2 is tested first, clause by clause; then the loop runs.
+use mathlib.Core.Bool.{true, false}
+use native.Mathlib.Omega.{arith}
+use Rattle.run.specs.Promises.{afterOf}
+use Rattle.run.proofs.Entry.{wrong-length, wrong-budget, judged, declined, taken}
+use borrow.Author.Needs.{needs}
+use Rattle.run.proofs.run.Statement.{statement}
+use Rattle.run.proofs.run.Tie as tie
+
+ended-requires : tie.Need-ended-requires
+ended-requires c κs = search needs
+
+returns : tie.Need-returns
+returns c =
+    let a = c .before .before .before .args in
+    declined (a .mem .now) (a .machine) (a .budget) (wrong-length (a .mem .now) (a .machine) (a .budget) (c .before .if1 .taken)) (c .ended .result) (c .ended .ensures)
+
+ended-requires-2 : tie.Need-ended-requires-2
+ended-requires-2 c κs = search needs
+
+returns-2 : tie.Need-returns-2
+returns-2 c =
+    let a = c .before .before .before .before .args in
+    declined (a .mem .now) (a .machine) (a .budget) (wrong-budget (a .mem .now) (a .machine) (a .budget) (omega arith) (omega arith)) (c .ended2 .result) (c .ended2 .ensures)
+
+well-formed-requires : tie.Need-well-formed-requires
+well-formed-requires c κs = search needs
+
+turns-requires : tie.Need-turns-requires
+turns-requires c κs =
+    let a = c .before .before .before .before .before .before .args in
+    judged (a .mem .now) (a .machine) (a .budget) (omega arith) (omega arith) (c .before .before .well-formed .result) (c .before .before .well-formed .ensures) true (c .before .if3 .taken)
+
+same-length : tie.Need-same-length
+same-length c = search needs
+
+returns-3 : tie.Need-returns-3
+returns-3 c =
+    let a = c .before .before .before .before .before .before .before .before .before .args in
+    taken (a .mem .now) (a .machine) (a .budget) (judged (a .mem .now) (a .machine) (a .budget) (omega arith) (omega arith) (c .before .before .before .before .before .well-formed .result) (c .before .before .before .before .before .well-formed .ensures) true (c .before .before .before .before .if3 .taken))
+    (afterOf (c .before .before .turns .last .0) (c .before .before .turns .result)) (c .before .before .turns .ensures)
+
+ended-requires-3 : tie.Need-ended-requires-3
+ended-requires-3 c κs = search needs
+
+returns-4 : tie.Need-returns-4
+returns-4 c =
+    let a = c .before .before .before .before .before .before .args in
+    declined (a .mem .now) (a .machine) (a .budget) (judged (a .mem .now) (a .machine) (a .budget) (omega arith) (omega arith) (c .before .before .well-formed .result) (c .before .before .well-formed .ensures) false (c .before .if3 .left)) (c .ended3 .result) (c .ended3 .ensures)
+
+pub run-spec : {M : Type 1} → statement M
+run-spec =
+    tie.close
+    (tie.spec
+    ended-requires
+    returns
+    ended-requires-2
+    returns-2
+    well-formed-requires
+    turns-requires
+    same-length
+    returns-3
+    ended-requires-3
+    returns-4)
