@@ -16,3 +16,4 @@ pub mod Carried
 pub mod Walks
 pub mod Cases
 pub mod Worked
+pub mod Images

@@ -1,0 +1,4 @@
+pub mod Filling
+pub mod Putting
+pub mod Standing
+pub mod Giving

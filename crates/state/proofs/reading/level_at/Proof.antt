@@ -1,0 +1,51 @@
+-- The parts stand one after the other.
+use Rattle.state.proofs.Standing.{level-stands}
+use borrow.Author.Needs.{needs}
+use Rattle.state.proofs.reading.level_at.Statement.{statement}
+use Rattle.state.proofs.reading.level_at.Tie as tie
+
+slice-aggregate-fill : tie.Need-slice-aggregate-fill
+slice-aggregate-fill c = search needs
+
+fill-requires : tie.Need-fill-requires
+fill-requires c κs = search needs
+
+add-pointer-at : tie.Need-add-pointer-at
+add-pointer-at c = search needs
+
+pointer-at-requires : tie.Need-pointer-at-requires
+pointer-at-requires c κs = search needs
+
+add-pointer-at-2 : tie.Need-add-pointer-at-2
+add-pointer-at-2 c = search needs
+
+pointer-at-requires-2 : tie.Need-pointer-at-requires-2
+pointer-at-requires-2 c κs = search needs
+
+add-cell-at : tie.Need-add-cell-at
+add-cell-at c = search needs
+
+cell-at-requires : tie.Need-cell-at-requires
+cell-at-requires c κs = search needs
+
+returns : tie.Need-returns
+returns c =
+    let second = c .before in
+    let first = second .before in
+    let cells = first .before .before in
+    let a = cells .before .before .before .args in
+    level-stands (a .state .now) (a .at) _ (cells .fill .ensures) (first .pointer-at .ensures) (second .pointer-at2 .ensures) (c .cell-at .ensures)
+
+pub level-at-spec : {M : Type 1} → statement M
+level-at-spec =
+    tie.close
+    (tie.spec
+    slice-aggregate-fill
+    fill-requires
+    add-pointer-at
+    pointer-at-requires
+    add-pointer-at-2
+    pointer-at-requires-2
+    add-cell-at
+    cell-at-requires
+    returns)

@@ -1,0 +1,50 @@
+//! Compiles the plain C interpreter and finds the proved library.
+//!
+//! Without the proved library the C interpreter stands in under the proved names, so that the model's tests need no
+//! toolchain; the programs that compare and measure refuse to take a stand-in for the real thing.
+
+use std::env;
+use std::path::{Path, PathBuf};
+use std::process::Command;
+
+const PLAIN: &str = "c/plain.c";
+const PROVED: &str = "../target/staticlib/libglidecotton.a";
+
+fn main() {
+    let out = PathBuf::from(env::var("OUT_DIR").expect("cargo sets OUT_DIR"));
+    println!("cargo:rerun-if-changed=c");
+    println!("cargo:rerun-if-changed={PROVED}");
+    println!("cargo:rerun-if-env-changed=GLIDECOTTON_STAND_IN");
+    println!("cargo:rustc-check-cfg=cfg(stand_in)");
+    println!("cargo:rustc-link-search=native={}", out.display());
+
+    archive(&out, "plain", &[]);
+    println!("cargo:rustc-link-lib=static=plain");
+
+    if env::var_os("GLIDECOTTON_STAND_IN").is_some() || !Path::new(PROVED).exists() {
+        archive(
+            &out,
+            "glidecotton",
+            &["-Dplain_bench=glidecotton_bench", "-Dplain_run_state=glidecotton_run_state"],
+        );
+        println!("cargo:rustc-cfg=stand_in");
+    } else {
+        std::fs::copy(PROVED, out.join("libglidecotton.a")).expect("the proved library can be read");
+    }
+    println!("cargo:rustc-link-lib=static=glidecotton");
+}
+
+/// Compiles the C interpreter with some names changed into a static library.
+fn archive(out: &Path, name: &str, renames: &[&str]) {
+    let object = out.join(format!("{name}.o"));
+    let library = out.join(format!("lib{name}.a"));
+    let mut compile = Command::new("cc");
+    compile.args(["-O3", "-std=c11", "-Wall", "-Wextra", "-Werror"]).args(renames);
+    finish(compile.args(["-c", PLAIN, "-o"]).arg(&object));
+    finish(Command::new("ar").arg("rcs").arg(&library).arg(&object));
+}
+
+fn finish(command: &mut Command) {
+    let status = command.status().unwrap_or_else(|error| panic!("{command:?}: {error}"));
+    assert!(status.success(), "{command:?}: {status}");
+}

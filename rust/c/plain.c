@@ -1,0 +1,156 @@
+/* The machine in plain C: the yardstick that the speed table divides by.
+   Written for speed and no more; every check of the rules is made. The headers hold code, so that this is one unit. */
+
+#include "machine.h"
+#include "run.h"
+
+/* A section is its count and then that many items; 64 bits, so that no count can wrap. */
+static const uint8_t *section(const uint8_t *image, size_t length, size_t *at, uint64_t item, uint64_t *count) {
+    if (length - *at < 4) return NULL;
+    *count = get32(image + *at);
+    if (*count * item > length - *at - 4) return NULL;
+    const uint8_t *items = image + *at + 4;
+    *at += 4 + (size_t)(*count * item);
+    return items;
+}
+
+/* Judges the whole file before the first byte of memory is written. */
+static int read_image(const uint8_t *image, size_t length, uint8_t *mem, struct machine *m, uint64_t *budget) {
+    size_t at = 0;
+    uint64_t bytes, cells, budgets;
+    const uint8_t *code = section(image, length, &at, 1, &bytes);
+    if (!code || bytes < 1 || bytes > MEMORY) return 0;
+    const uint8_t *stack = section(image, length, &at, 4, &cells);
+    if (!stack || cells > CELLS) return 0;
+    const uint8_t *limit = section(image, length, &at, 4, &budgets);
+    if (!limit || budgets > 1 || at != length) return 0;
+    *budget = budgets ? get32(limit) : DEFAULT_BUDGET;
+    if (*budget > MAX_BUDGET) return 0;
+
+    memcpy(mem, code, bytes);
+    memset(mem + bytes, 0, MEMORY - bytes);
+    memset(m, 0, sizeof *m);
+    for (uint64_t i = 0; i < cells; i++) m->param[i] = get32(stack + 4 * i);
+    m->p = cells;
+    return 1;
+}
+
+static char *decimal(char *to, uint64_t v, char after) {
+    char digits[20];
+    int n = 0;
+    do digits[n++] = (char)('0' + v % 10);
+    while (v /= 10);
+    while (n > 0) *to++ = digits[--n];
+    *to++ = after;
+    return to;
+}
+
+static char *report(char *to, const struct machine *m, struct outcome o) {
+    to = decimal(to, o.answer, ' ');
+    to = decimal(to, o.steps, ' ');
+    to = decimal(to, o.cycles, ' ');
+    to = decimal(to, m->pc, ' ');
+    to = decimal(to, m->p, ' ');
+    to = decimal(to, m->r, ' ');
+    to = decimal(to, m->s, ' ');
+    to = decimal(to, m->e, '\n');
+    for (uint64_t i = 0; i < m->p; i++) {
+        for (int shift = 28; shift >= 0; shift -= 4) *to++ = "0123456789ABCDEF"[m->param[i] >> shift & 15];
+        *to++ = '\n';
+    }
+    return to;
+}
+
+/* The text of the bench program; its length, or 2 where a buffer does not suit. */
+uint64_t plain_bench(const uint8_t *image, size_t image_len, uint8_t *memory, size_t memory_len, uint8_t *out,
+                     size_t out_len) {
+    struct machine m;
+    uint64_t budget;
+    char text[TEXT_BYTES], *end;
+    if (memory_len != MEMORY) return 2;
+    if (read_image(image, image_len, memory, &m, &budget)) {
+        struct outcome o = run(&m, memory, budget);
+        end = report(text, &m, o);
+    } else {
+        end = decimal(text, 14, '\n');
+    }
+    size_t length = (size_t)(end - text);
+    if (out_len < length) return 2;
+    memcpy(out, text, length);
+    return length;
+}
+
+static uint64_t take(const uint8_t **at, int bytes) {
+    uint64_t v = 0;
+    for (int i = 0; i < bytes; i++) v = v << 8 | *(*at)++;
+    return v;
+}
+
+static void give(uint8_t **at, int bytes, uint64_t v) {
+    for (int i = bytes - 1; i >= 0; i--) *(*at)++ = (uint8_t)(v >> 8 * i);
+}
+
+static void read_state(struct machine *m, const uint8_t *at) {
+    for (int i = 0; i < CELLS; i++) m->param[i] = (uint32_t)take(&at, 4);
+    m->p = take(&at, 8);
+    for (int i = 0; i < CELLS; i++) m->ret[i] = (uint32_t)take(&at, 4);
+    m->r = take(&at, 8);
+    for (int i = 0; i <= FRAMES; i++) {
+        struct frame *f = &m->frames[i];
+        for (int j = 0; j < LOCALS; j++) f->locals[j] = (uint32_t)take(&at, 4);
+        f->copy_r = take(&at, 8);
+        f->ret = (uint32_t)take(&at, 4);
+    }
+    m->s = take(&at, 8);
+    for (int i = 0; i <= CATCHES; i++) {
+        struct level *l = &m->levels[i];
+        for (int j = 0; j < CATCH_CELLS; j++) l->cells[j] = (uint32_t)take(&at, 4);
+        l->copy_s = take(&at, 8);
+        l->copy_p = take(&at, 8);
+        l->throw_to = (uint32_t)take(&at, 4);
+    }
+    m->e = take(&at, 8);
+    m->pc = (uint32_t)take(&at, 4);
+    m->flag = (uint32_t)take(&at, 4);
+}
+
+static void write_state(const struct machine *m, uint8_t *at) {
+    for (int i = 0; i < CELLS; i++) give(&at, 4, m->param[i]);
+    give(&at, 8, m->p);
+    for (int i = 0; i < CELLS; i++) give(&at, 4, m->ret[i]);
+    give(&at, 8, m->r);
+    for (int i = 0; i <= FRAMES; i++) {
+        const struct frame *f = &m->frames[i];
+        for (int j = 0; j < LOCALS; j++) give(&at, 4, f->locals[j]);
+        give(&at, 8, f->copy_r);
+        give(&at, 4, f->ret);
+    }
+    give(&at, 8, m->s);
+    for (int i = 0; i <= CATCHES; i++) {
+        const struct level *l = &m->levels[i];
+        for (int j = 0; j < CATCH_CELLS; j++) give(&at, 4, l->cells[j]);
+        give(&at, 8, l->copy_s);
+        give(&at, 8, l->copy_p);
+        give(&at, 4, l->throw_to);
+    }
+    give(&at, 8, m->e);
+    give(&at, 4, m->pc);
+    give(&at, 4, m->flag);
+}
+
+/* Runs a state handed in as bytes; 2 with nothing touched where state or result has another length. */
+uint64_t plain_run_state(uint8_t *state, size_t state_len, uint8_t *memory, size_t memory_len, uint64_t budget,
+                         uint8_t *result, size_t result_len) {
+    struct machine m;
+    struct outcome o = {2, 0, 0};
+    if (state_len != STATE_BYTES || result_len != RESULT_BYTES) return 2;
+    read_state(&m, state);
+    if (memory_len == MEMORY && budget <= MAX_BUDGET && well_formed(&m)) {
+        o = run(&m, memory, budget);
+        write_state(&m, state);
+    }
+    give(&result, 8, o.answer);
+    give(&result, 8, o.steps);
+    give(&result, 8, o.cycles);
+    return 0;
+}

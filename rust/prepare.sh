@@ -1,0 +1,10 @@
+# Sourced by compare and speed: builds the proved library and the programs here.
+# With GLIDECOTTON_STAND_IN=1 the plain C interpreter takes the proved machine's place, to try the harness itself.
+set -eu
+stand_in=
+if [ -n "${GLIDECOTTON_STAND_IN:-}" ]; then
+    stand_in=--stand-in
+else
+    (cd .. && rt staticlib glidecotton)
+fi
+cargo build --release --offline --quiet

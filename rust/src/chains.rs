@@ -1,0 +1,102 @@
+//! Comparisons that begin with a state in place of an image.
+
+use crate::comparison::{Comparison, Difference, Lengths};
+use crate::fragments::{Arena, STYLES};
+use crate::grower::Grower;
+use crate::model::state::{Machine, MEMORY};
+use crate::random::Random;
+use crate::states::{broken, well_formed, CLAUSES};
+
+/// Code of a state's runs lies here.
+const ARENA: Arena = Arena { start: 0, length: 4096 };
+
+/// One comparison of a random kind; gives the number of runs it took.
+pub fn any_state(comparison: &mut Comparison, random: &mut Random) -> Result<u64, Difference> {
+    match random.below(10) {
+        0 => one_clause_broken(comparison, random),
+        1 => wrong_call(comparison, random),
+        2..=5 => any_instruction(comparison, random),
+        _ => chain(comparison, random),
+    }
+}
+
+fn one_clause_broken(comparison: &mut Comparison, random: &mut Random) -> Result<u64, Difference> {
+    let clause = random.below(CLAUSES.len());
+    comparison.tally.kind(CLAUSES[clause]);
+    let mut machine = broken(random, clause);
+    let mut memory = memory(random);
+    comparison.state(&mut machine, &mut memory, 10, Lengths::RIGHT)?;
+    Ok(1)
+}
+
+/// A good state with one buffer or the budget not as it should be.
+fn wrong_call(comparison: &mut Comparison, random: &mut Random) -> Result<u64, Difference> {
+    let mut machine = well_formed(random);
+    let mut memory = memory(random);
+    let mut lengths = Lengths::RIGHT;
+    let mut budget = 5;
+    let kind = match random.below(4) {
+        0 => {
+            lengths.state = random.pick(&[0, 1, lengths.state - 1, lengths.state + 1]);
+            "state: of a wrong length"
+        }
+        1 => {
+            lengths.memory = random.pick(&[0, 1, MEMORY - 1, MEMORY + 1, 2 * MEMORY]);
+            "state: wrong memory"
+        }
+        2 => {
+            lengths.result = random.pick(&[0, 1, 8, lengths.result - 1, lengths.result + 1]);
+            "state: wrong result"
+        }
+        _ => {
+            budget = random.pick(&[1_000_001, 1 << 32, 1 << 63, u64::MAX]);
+            "state: wrong budget"
+        }
+    };
+    comparison.tally.kind(kind);
+    comparison.state(&mut machine, &mut memory, budget, lengths)?;
+    Ok(1)
+}
+
+/// Any bytes at the program counter of any state: where several refusals apply, it is seen which is given.
+fn any_instruction(comparison: &mut Comparison, random: &mut Random) -> Result<u64, Difference> {
+    comparison.tally.kind("state: any instruction");
+    let mut machine = well_formed(random);
+    let mut memory = memory(random);
+    let at = if random.percent(10) { MEMORY - random.between(1, 5) } else { random.below(MEMORY) };
+    machine.program_counter = at as u32;
+    memory[at] = if random.percent(90) { random.below(0x3E) as u8 } else { random.byte() };
+    comparison.state(&mut machine, &mut memory, random.between(0, 2) as u64, Lengths::RIGHT)?;
+    Ok(1)
+}
+
+/// Several runs of one state, one after another, the memory changed in between.
+fn chain(comparison: &mut Comparison, random: &mut Random) -> Result<u64, Difference> {
+    let mut machine = if random.percent(15) { Machine::fresh() } else { well_formed(random) };
+    let mut memory = memory(random);
+    machine.program_counter = if random.percent(2) { random.u32() } else { random.below(ARENA.length) as u32 };
+    let runs = random.between(1, 5) as u64;
+    for _ in 0..runs {
+        comparison.tally.kind("state: run in a chain");
+        let (_, style) = random.pick(&STYLES);
+        let target = random.between(1, 120) as u64;
+        let copy: Box<[u8; MEMORY]> = memory.clone().into_boxed_slice().try_into().expect("a memory's length");
+        let grown = Grower { random, style, arena: ARENA, machine: machine.clone(), memory: copy }.grow(target);
+        for (address, byte) in grown.chosen {
+            memory[address] = byte;
+        }
+        let budget = grown.steps.saturating_sub(random.below(2) as u64) + random.below(3) as u64;
+        comparison.state(&mut machine, &mut memory, budget, Lengths::RIGHT)?;
+        let elsewhere = random.below(MEMORY);
+        memory[elsewhere] = random.byte();
+        // A machine that was refused would be refused again: the host moves it on.
+        if grown.ended.is_some() {
+            machine.program_counter = random.below(ARENA.length) as u32;
+        }
+    }
+    Ok(runs)
+}
+
+fn memory(random: &mut Random) -> Vec<u8> {
+    random.bytes(256).repeat(MEMORY / 256)
+}

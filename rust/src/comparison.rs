@@ -1,0 +1,159 @@
+//! Both machines on the same input, every byte compared.
+
+use crate::boundary::PROVED;
+use crate::model::bench::bench;
+use crate::model::run::run;
+use crate::model::state::{Answer, Machine, MEMORY};
+use crate::random::Random;
+use crate::state_bytes::{spell, spell_result, RESULT_BYTES, STATE_BYTES};
+use crate::tally::Tally;
+
+/// A buffer that takes the longest text.
+const OUT: usize = 1024;
+/// The boundary's number for a buffer that does not suit.
+const REFUSED: u64 = 2;
+
+/// Two machines disagree; the text says on what.
+pub struct Difference(pub String);
+
+/// How much of an output buffer is lent.
+#[derive(Clone, Copy)]
+pub enum Room {
+    Plenty,
+    /// Just what the text needs.
+    Exact,
+    /// So many bytes too few.
+    Short(usize),
+}
+
+/// The lengths of the buffers lent to one call of `run_state`.
+#[derive(Clone, Copy)]
+pub struct Lengths {
+    pub state: usize,
+    pub memory: usize,
+    pub result: usize,
+}
+
+impl Lengths {
+    pub const RIGHT: Lengths = Lengths { state: STATE_BYTES, memory: MEMORY, result: RESULT_BYTES };
+}
+
+pub struct Comparison {
+    /// What lies in a buffer before a call, so that an untouched byte can be told from a written one.
+    noise: Vec<u8>,
+    ours: Vec<u8>,
+    theirs: Vec<u8>,
+    pub tally: Tally,
+}
+
+impl Comparison {
+    pub fn new(random: &mut Random) -> Comparison {
+        let noise = random.bytes(2 * MEMORY);
+        Comparison { noise, ours: Vec::new(), theirs: Vec::new(), tally: Tally::default() }
+    }
+
+    /// Runs an image on both; gives the steps where there was a run.
+    pub fn image(&mut self, image: &[u8], memory_length: usize, room: Room) -> Result<Option<u64>, Difference> {
+        self.ours.clear();
+        self.ours.extend(&self.noise[..memory_length]);
+        self.theirs.clone_from(&self.ours);
+
+        let model = bench(image, &mut self.ours, &mut self.tally);
+        let text = model.text.as_bytes();
+        let out_length = match room {
+            Room::Plenty => OUT,
+            Room::Exact => text.len(),
+            Room::Short(by) => text.len().saturating_sub(by),
+        };
+        let mut expected = self.noise[..out_length].to_vec();
+        let mut out = expected.clone();
+        let fits = memory_length == MEMORY && text.len() <= out_length;
+        if fits {
+            expected[..text.len()].copy_from_slice(text);
+        }
+        let expected_number = if fits { text.len() as u64 } else { REFUSED };
+        self.tally.answer(if fits { answer_of(&model.outcome) } else { Answer::BadInput });
+
+        let number = PROVED.bench(image, &mut self.theirs, &mut out);
+        // What a run leaves in memory is not promised where its text found no room.
+        let memory_differs = (fits || memory_length != MEMORY) && self.theirs != self.ours;
+        if number == expected_number && out == expected && !memory_differs {
+            return Ok(model.outcome.ok().map(|outcome| outcome.steps));
+        }
+        Err(Difference(format!(
+            "image  {}\nmemory of {memory_length} bytes, out of {out_length}\nmodel  {expected_number}: {}\nproved {number}: {}\n{}",
+            hex(image),
+            shown(&expected),
+            shown(&out),
+            first_difference("memory", &self.ours, &self.theirs),
+        )))
+    }
+
+    /// Runs a state on both, and leaves machine and memory as the model left them.
+    pub fn state(
+        &mut self,
+        machine: &mut Machine,
+        memory: &mut Vec<u8>,
+        budget: u64,
+        lengths: Lengths,
+    ) -> Result<(), Difference> {
+        let before = lent(spell(machine), lengths.state);
+        let mut theirs = before.clone();
+        let mut their_result = self.noise[..lengths.result].to_vec();
+        let mut our_result = their_result.clone();
+        memory.resize(lengths.memory, 0);
+        let memory_before = memory.clone();
+        self.theirs.clone_from(memory);
+
+        let mut ours = before.clone();
+        let mut expected_number = REFUSED;
+        if lengths.state == STATE_BYTES && lengths.result == RESULT_BYTES {
+            let outcome = run(machine, memory, budget, &mut self.tally);
+            self.tally.answer(outcome.answer);
+            ours = spell(machine);
+            our_result = spell_result(outcome);
+            expected_number = 0;
+        }
+        let number = PROVED.run_state(&mut theirs, &mut self.theirs, budget, &mut their_result);
+        let same = number == expected_number && theirs == ours && self.theirs == *memory && their_result == our_result;
+        memory.resize(MEMORY, 0);
+        if same {
+            return Ok(());
+        }
+        Err(Difference(format!(
+            "state  {}\nmemory {}\nbudget {budget}\nmodel  {expected_number}: result {}\nproved {number}: result {}\n{}{}",
+            hex(&before),
+            hex(&memory_before),
+            hex(&our_result),
+            hex(&their_result),
+            first_difference("state", &ours, &theirs),
+            first_difference("memory", memory, &self.theirs),
+        )))
+    }
+}
+
+fn answer_of(outcome: &Result<crate::model::run::Outcome, Answer>) -> Answer {
+    outcome.as_ref().map_or_else(|&refused| refused, |outcome| outcome.answer)
+}
+
+/// The bytes cut or filled up to a length.
+fn lent(mut bytes: Vec<u8>, length: usize) -> Vec<u8> {
+    bytes.resize(length, 0xA5);
+    bytes
+}
+
+fn hex(bytes: &[u8]) -> String {
+    bytes.iter().map(|byte| format!("{byte:02X}")).collect()
+}
+
+/// The front of an output buffer, readable where it is text.
+fn shown(out: &[u8]) -> String {
+    String::from_utf8_lossy(&out[..out.len().min(640)]).escape_debug().to_string()
+}
+
+fn first_difference(what: &str, ours: &[u8], theirs: &[u8]) -> String {
+    match ours.iter().zip(theirs).position(|(a, b)| a != b) {
+        Some(at) => format!("{what} differs first at byte {at}: model {:02X}, proved {:02X}\n", ours[at], theirs[at]),
+        None => String::new(),
+    }
+}

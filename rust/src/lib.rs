@@ -1,0 +1,21 @@
+//! A second opinion on the machine.
+//!
+//! `model` is written from the rules alone; `boundary` is the door to the proved library and to the plain C
+//! interpreter; the rest makes images and states, compares what the two machines do, and measures their speed.
+
+pub mod arguments;
+pub mod assembler;
+pub mod boundary;
+pub mod chains;
+pub mod comparison;
+pub mod damage;
+pub mod fragments;
+pub mod grower;
+pub mod model;
+pub mod operands;
+pub mod programs;
+pub mod random;
+pub mod speed_images;
+pub mod state_bytes;
+pub mod states;
+pub mod tally;

@@ -1,0 +1,19 @@
+//! The rules of the machine, as a reader of the rules would write them down.
+//!
+//! Clarity decides here, not speed: what an instruction needs is tested first, in one list in the order of the answer
+//! numbers, and only then is it carried out, with no test left to make.
+
+pub mod bench;
+pub mod codes;
+#[cfg(test)]
+mod edges;
+pub mod image;
+pub mod links;
+pub mod place;
+pub mod refusal;
+pub mod run;
+#[cfg(test)]
+mod sheet;
+pub mod state;
+pub mod step;
+pub mod word;

@@ -1,0 +1,35 @@
+//! The text of the bench program.
+
+use std::fmt::Write;
+
+use super::image::load_image;
+use super::run::{run, Observer, Outcome};
+use super::state::{Answer, Machine};
+
+/// What became of an image: the text, and the run's outcome where there was a run.
+pub struct Bench {
+    pub text: String,
+    pub outcome: Result<Outcome, Answer>,
+}
+
+/// Reads the image, runs it and writes the report.
+pub fn bench(image: &[u8], memory: &mut [u8], observer: &mut impl Observer) -> Bench {
+    match load_image(image, memory) {
+        Ok((mut machine, budget)) => {
+            let outcome = run(&mut machine, memory, budget, observer);
+            Bench { text: report(&machine, outcome), outcome: Ok(outcome) }
+        }
+        Err(answer) => Bench { text: format!("{}\n", answer.number()), outcome: Err(answer) },
+    }
+}
+
+fn report(machine: &Machine, outcome: Outcome) -> String {
+    let Outcome { answer, steps, cycles } = outcome;
+    let Machine { program_counter, p, r, s, e, .. } = machine;
+    let mut text = format!("{} {steps} {cycles} {program_counter} {p} {r} {s} {e}\n", answer.number());
+    for cell in &machine.parameters[..machine.p] {
+        // Writing to a string cannot fail.
+        let _ = writeln!(text, "{cell:08X}");
+    }
+    text
+}

@@ -1,0 +1,37 @@
+//! Why an instruction that was fetched may not be carried out: answers 5 to 13.
+
+use super::codes::{Instruction, Op};
+use super::place::{place, width};
+use super::state::{Answer, Machine, CATCHES, CELLS, FRAMES};
+
+/// The lowest answer that applies, or nothing.
+pub fn refusal(machine: &Machine, instruction: &Instruction) -> Option<Answer> {
+    let row = instruction.row;
+    if machine.p < row.takes {
+        return Some(Answer::TooFewParameters);
+    }
+    // A code that takes nothing makes no use of the top cell.
+    let top = if row.takes > 0 { machine.parameters[machine.p - 1] } else { 0 };
+    let op = row.op;
+    let calls = matches!(op, Op::Catch | Op::Jsr | Op::Jsl);
+    let accesses = width(op) > 0;
+
+    let in_order = [
+        (matches!(op, Op::RFrom | Op::RFetch) && machine.r == 0, Answer::ReturnStackEmpty),
+        (op == Op::Throw && top != 0 && machine.e == 0, Answer::NothingCatches),
+        (depth_after(machine, instruction, top) > CELLS, Answer::ParametersFull),
+        ((calls || op == Op::ToR) && machine.r == CELLS, Answer::ReturnsFull),
+        (calls && machine.s == FRAMES, Answer::FramesFull),
+        (op == Op::Catch && machine.e == CATCHES, Answer::CatchesFull),
+        (accesses && place(width(op), top).is_none(), Answer::BadAddress),
+        (matches!(op, Op::DivS | Op::DivU) && top == 0, Answer::DivisorZero),
+    ];
+    in_order.into_iter().find(|(applies, _)| *applies).map(|(_, answer)| answer)
+}
+
+/// P as the instruction would leave it. A THROW that is caught leaves at most 64, so its row may say what it likes.
+fn depth_after(machine: &Machine, instruction: &Instruction, top: u32) -> usize {
+    let row = instruction.row;
+    let doubled = usize::from(row.op == Op::QDup && top != 0);
+    machine.p - row.takes + row.leaves + doubled
+}

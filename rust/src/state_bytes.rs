@@ -1,0 +1,50 @@
+//! A whole state as bytes, big endian, in the order in which the boundary passes it.
+
+use crate::model::run::Outcome;
+use crate::model::state::{Machine, CATCHES, CATCH_CELLS, CELLS, FRAMES, LOCALS};
+
+const POINTER: usize = 8;
+const CELL: usize = 4;
+const FRAME: usize = LOCALS * CELL + POINTER + CELL;
+const CATCH: usize = CATCH_CELLS * CELL + 2 * POINTER + CELL;
+
+pub const STATE_BYTES: usize =
+    2 * (CELLS * CELL + POINTER) + (FRAMES + 1) * FRAME + POINTER + (CATCHES + 1) * CATCH + POINTER + 2 * CELL;
+pub const RESULT_BYTES: usize = 3 * POINTER;
+
+const _: () = assert!(STATE_BYTES == 3528);
+
+pub fn spell(machine: &Machine) -> Vec<u8> {
+    let mut bytes = Vec::with_capacity(STATE_BYTES);
+    put_cells(&mut bytes, &machine.parameters);
+    put_pointer(&mut bytes, machine.p);
+    put_cells(&mut bytes, &machine.returns);
+    put_pointer(&mut bytes, machine.r);
+    for frame in &machine.frames {
+        put_cells(&mut bytes, &frame.locals);
+        put_pointer(&mut bytes, frame.copy_of_r);
+        put_cells(&mut bytes, &[frame.return_address]);
+    }
+    put_pointer(&mut bytes, machine.s);
+    for catch in &machine.catches {
+        put_cells(&mut bytes, &catch.cells);
+        put_pointer(&mut bytes, catch.copy_of_s);
+        put_pointer(&mut bytes, catch.copy_of_p);
+        put_cells(&mut bytes, &[catch.throw_address]);
+    }
+    put_pointer(&mut bytes, machine.e);
+    put_cells(&mut bytes, &[machine.program_counter, machine.flag]);
+    bytes
+}
+
+pub fn spell_result(outcome: Outcome) -> Vec<u8> {
+    [outcome.answer.number(), outcome.steps, outcome.cycles].iter().flat_map(|number| number.to_be_bytes()).collect()
+}
+
+fn put_cells(bytes: &mut Vec<u8>, cells: &[u32]) {
+    bytes.extend(cells.iter().flat_map(|cell| cell.to_be_bytes()));
+}
+
+fn put_pointer(bytes: &mut Vec<u8>, pointer: usize) {
+    bytes.extend((pointer as u64).to_be_bytes());
+}
