@@ -1,0 +1,39 @@
+-- A bench's promise from what its parts ensure: the three ways it can end.
+use mathlib.Core.List.{List}
+use mathlib.Core.Path.{_≡_, refl, sym, ap, _∙_}
+use Prim.Native.Nat.{ℕ}
+use borrow.Author.Tests.{eq-eqb, ne-eqb}
+use Rattle.machine.specs.Run.{After, runOf}
+use Rattle.machine.specs.declared.Ran.{Ran}
+use Rattle.image.specs.Loading.{Read}
+use Rattle.image.specs.Only.{Answer}
+use Rattle.image.specs.declared.Loaded.{Loaded}
+use Rattle.image.specs.declared.Verdict.{Verdict}
+use Rattle.image.specs.declared.Verdict.the-variants.{Good, Refused}
+use Rattle.report.specs.Printing.{Reported, reportOf, refusalOf}
+use Rattle.report.specs.declared.Printed.{Printed}
+use Rattle.report.specs.declared.Printed.the-variants as printed
+use Rattle.glidecotton.specs.Bench.{Benched, Benches, benchOf, afterRead, afterRun, with}
+
+module _ (image memory out mid : List ℕ) (loaded : Loaded) (is-read : Read image memory mid loaded) where
+  abbrev read : Answer
+  read = record { memory = mid; loaded = loaded }
+
+  by-verdict : (v : Verdict) → loaded .verdict ≡ v → (done : Benched) → done ≡ afterRead v read out → Benches image memory out done
+  unfolding benchOf
+  by-verdict v e done h =
+      record { answer = read; is-read = is-read; comes-to = h ∙ ap (λ (w : Verdict). afterRead w read out) (sym e) }
+
+  pub no-text : (number : ℕ) → loaded .verdict ≡ Refused number → number ≡ 2
+      → Benches image memory out (record { printed = printed.Refused 2; memory = mid; out = out })
+  no-text number e two = by-verdict (Refused number) e _ (simp (eq-eqb number 2 two))
+
+  pub refusal-text : (number : ℕ) (reported : Reported) → loaded .verdict ≡ Refused number → (number ≡ 2 → ⊥) → reported ≡ refusalOf number out
+      → Benches image memory out (with mid reported)
+  refusal-text number reported e other h =
+      by-verdict (Refused number) e _ (ap (with mid) h ∙ simp (ne-eqb number 2 other))
+
+  pub run-text : (after : After) (reported : Reported) → loaded .verdict ≡ Good → after ≡ runOf mid (loaded .machine) (loaded .budget)
+      → reported ≡ reportOf (after .ran) out → Benches image memory out (with (after .memory) reported)
+  run-text after reported e ran h =
+      by-verdict Good e _ (ap (with (after .memory)) h ∙ ap (λ (a : After). afterRun a out) ran)

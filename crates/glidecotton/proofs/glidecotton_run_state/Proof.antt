@@ -1,0 +1,85 @@
+-- Each way out hands what the called functions ensure to its law.
+use mathlib.Core.Path.{_≡_, ap, _∙_}
+use native.Mathlib.Omega.{arith}
+use lib.ListN.{length}
+use Rattle.machine.specs.Run.{runOf}
+use Rattle.glidecotton.specs.Handed.{resultSize}
+use Rattle.glidecotton.proofs.Handing.{other-result, other-state, handed-back}
+use borrow.Author.Needs.{needs}
+use Rattle.glidecotton.proofs.glidecotton_run_state.Statement.{statement}
+use Rattle.glidecotton.proofs.glidecotton_run_state.Tie as tie
+
+returns : tie.Need-returns
+returns c =
+    let start = c .before .before .before .before in
+    let a = start .args in
+    let other : length (a .result .now) ≡ resultSize → ⊥ = omega arith in
+    other-result (a .state .now) (a .memory .now) (a .budget) (a .result .now) other
+
+take-requires : tie.Need-take-requires
+take-requires c κs = search needs
+
+enum-told : tie.Need-enum-told
+enum-told c = search needs
+
+enum-told-2 : tie.Need-enum-told-2
+enum-told-2 c = search needs
+
+same-length : tie.Need-same-length
+same-length c = search needs
+
+returns-2 : tie.Need-returns-2
+returns-2 c =
+    let start = c .before .before .before .before .before .before .before .before in
+    let a = start .args in
+    other-state (a .state .now) (a .memory .now) (a .budget) (a .result .now) _ _ (c .before .before .take .ensures) (c .enum-told2 .given .1)
+
+narrowed-requires : tie.Need-narrowed-requires
+narrowed-requires c κs = search needs
+
+run-requires : tie.Need-run-requires
+run-requires c κs = search needs
+
+give-requires : tie.Need-give-requires
+give-requires c κs = search needs
+
+put-numbers-requires : tie.Need-put-numbers-requires
+put-numbers-requires c κs = search needs
+
+same-length-2 : tie.Need-same-length-2
+same-length-2 c = search needs
+
+same-length-3 : tie.Need-same-length-3
+same-length-3 c = search needs
+
+same-length-4 : tie.Need-same-length-4
+same-length-4 c = search needs
+
+returns-3 : tie.Need-returns-3
+returns-3 c =
+    let start = c .before .before .before .before .before .before .before .before .before .before .before .before .before .before .before .before .before .before .before .before .before .before .before .before .before in
+    let a = start .args in
+    let narrow = c .before .before .before .before .before .before .before .before .before .before .before .before .before .before .narrowed in
+    let ran = c .before .before .before .before .before .before .before .before .before .before .before .before .before .run in
+    let long : length (a .result .now) ≡ resultSize = omega (arith, c .before .before .before .before .before .before .before .before .before .before .before .before .before .before .before .before .before .before .before .before .before .if1 .left) in
+    handed-back (a .state .now) (a .memory .now) (a .budget) (a .result .now) _ _ _ _ (c .before .before .before .before .before .before .before .before .before .before .before .before .before .before .before .before .before .before .before .take .ensures) (c .before .before .before .before .before .before .before .before .before .before .before .before .before .before .before .before .before .enum-told .given .1) long
+    (ran .ensures ∙ ap (runOf (a .memory .now) _) (narrow .ensures)) (c .before .before .before .before .before .before .give .ensures) (c .before .before .put-numbers .ensures)
+
+pub glidecotton-run-state-spec : {M : Type 1} → statement M
+glidecotton-run-state-spec =
+    tie.close
+    (tie.spec
+    returns
+    take-requires
+    enum-told
+    enum-told-2
+    same-length
+    returns-2
+    narrowed-requires
+    run-requires
+    give-requires
+    put-numbers-requires
+    same-length-2
+    same-length-3
+    same-length-4
+    returns-3)

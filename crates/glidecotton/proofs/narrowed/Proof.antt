@@ -1,0 +1,17 @@
+-- The test is the one that the definition makes.
+use borrow.Author.Tests.{lt-ltb, le-ltb}
+use borrow.Author.Needs.{needs}
+use Rattle.glidecotton.proofs.narrowed.Statement.{statement}
+use Rattle.glidecotton.proofs.narrowed.Tie as tie
+
+returns : tie.Need-returns
+returns c = simp (lt-ltb _ _ (c .if1 .taken))
+
+cast-result : tie.Need-cast-result
+cast-result c = search needs
+
+returns-2 : tie.Need-returns-2
+returns-2 c = simp (le-ltb _ _ (c .if1 .left))
+
+pub narrowed-spec : {M : Type 1} → statement M
+narrowed-spec = tie.close (tie.spec returns cast-result returns-2)
