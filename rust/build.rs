@@ -8,12 +8,14 @@ use std::path::{Path, PathBuf};
 use std::process::Command;
 
 const PLAIN: &str = "c/plain.c";
-const PROVED: &str = "../target/staticlib/libglidecotton.a";
+const PROVED: [&str; 2] = ["../target/staticlib/libglidecotton.a", "../target/staticlib/libhost.a"];
 
 fn main() {
     let out = PathBuf::from(env::var("OUT_DIR").expect("cargo sets OUT_DIR"));
     println!("cargo:rerun-if-changed=c");
-    println!("cargo:rerun-if-changed={PROVED}");
+    for library in PROVED {
+        println!("cargo:rerun-if-changed={library}");
+    }
     println!("cargo:rerun-if-env-changed=GLIDECOTTON_STAND_IN");
     println!("cargo:rustc-check-cfg=cfg(stand_in)");
     println!("cargo:rustc-link-search=native={}", out.display());
@@ -21,7 +23,7 @@ fn main() {
     archive(&out, "plain", &[]);
     println!("cargo:rustc-link-lib=static=plain");
 
-    if env::var_os("GLIDECOTTON_STAND_IN").is_some() || !Path::new(PROVED).exists() {
+    if env::var_os("GLIDECOTTON_STAND_IN").is_some() || !PROVED.iter().all(|library| Path::new(library).exists()) {
         archive(
             &out,
             "glidecotton",
@@ -29,7 +31,11 @@ fn main() {
         );
         println!("cargo:rustc-cfg=stand_in");
     } else {
-        std::fs::copy(PROVED, out.join("libglidecotton.a")).expect("the proved library can be read");
+        for library in PROVED.map(Path::new) {
+            let name = library.file_name().expect("a library has a name");
+            std::fs::copy(library, out.join(name)).expect("the proved library can be read");
+        }
+        println!("cargo:rustc-link-lib=static=host");
     }
     println!("cargo:rustc-link-lib=static=glidecotton");
 }

@@ -5,6 +5,6 @@ stand_in=
 if [ -n "${GLIDECOTTON_STAND_IN:-}" ]; then
     stand_in=--stand-in
 else
-    (cd .. && rt staticlib glidecotton)
+    (cd .. && rt staticlib glidecotton && rt staticlib host)
 fi
 cargo build --release --offline --quiet

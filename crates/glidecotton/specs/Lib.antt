@@ -1,6 +1,4 @@
 pub mod Bench
 pub mod Host
-pub mod Handed
-pub mod Budget
 pub mod Apart
 pub mod Only

@@ -1,16 +1,12 @@
 -- No second answer: two answers, with both buffers, that meet a promise are equal.
 use mathlib.Core.List.{List}
-use mathlib.Core.Path.{_≡_, refl, sym, ap, _∙_}
+use mathlib.Core.Path.{_≡_, sym, ap, _∙_}
 use Prim.Native.Nat.{ℕ}
 use Rattle.image.specs.Numbers.{Bytes}
 use Rattle.image.specs.Only.{Answer, only-read}
 use Rattle.image.specs.Computed.{readOf, computed}
-use Rattle.machine.specs.Run.{runOf}
-use Rattle.machine.specs.declared.Machine.{Machine}
-use Rattle.state.specs.Spelling.{only-machine}
 use Rattle.glidecotton.specs.Bench.{Benched, Benches, benchOf}
 use Rattle.glidecotton.specs.Host.{Hosted, Hosts, hosted}
-use Rattle.glidecotton.specs.Handed.{Handed, Hands, wrong-length, run, handedBack}
 
 pub only-bench : (image memory out : List ℕ) (a b : Benched) → Benches image memory out a → Benches image memory out b → a ≡ b
 only-bench image memory out a b h k =
@@ -25,11 +21,3 @@ only-host image memory out a b h k =
 pub bench-computed : (image memory out : List ℕ) (done : Benched) → Bytes image → Benches image memory out done → done ≡ benchOf (readOf image memory) out
 bench-computed image memory out done bytes h =
     h .comes-to ∙ ap (λ (read : Answer). benchOf read out) (computed image memory (h .answer .memory) (h .answer .loaded) bytes (h .is-read))
-
-pub only-handed : (state memory : List ℕ) (budget : ℕ) (result : List ℕ) (a b : Handed)
-    → Hands state memory budget result a → Hands state memory budget result b → a ≡ b
-only-handed state memory budget result a b (wrong-length h) (wrong-length k) = refl
-only-handed state memory budget result a b (wrong-length h) (run n all long fits is) = absurd (h (all, long))
-only-handed state memory budget result a b (run m all long fits is) (wrong-length k) = absurd (k (all, long))
-only-handed state memory budget result a b (run m all long fits is) (run n also too fit same) =
-    ap (λ (x : Machine). handedBack (runOf memory x budget)) (only-machine m n fits fit (is ∙ sym same))

@@ -13,9 +13,9 @@ use Rattle.state.specs.Promise.{Takes, wrong-length, spelled, refusedWith, Give
 use Rattle.state.specs.declared.Taken.{Taken}
 use Rattle.state.proofs.Putting.{put-then}
 use Rattle.state.specs.declared.Verdict.the-variants.{Good, Refused}
-use Rattle.glidecotton.specs.Handed.{Handed, Hands, numbersOf, resultSize, handedBack}
-use Rattle.glidecotton.specs.Handed as handed
-use Rattle.glidecotton.specs.Budget.{narrowedTo, same-run}
+use Rattle.host.specs.Handed.{Handed, Hands, numbersOf, resultSize, handedBack}
+use Rattle.host.specs.Handed as handed
+use Rattle.host.specs.Budget.{narrowedTo, same-run}
 
 -- a number of 32 bits in 8 bytes
 small-pointer : (v : ℕ) → v < 2 ^ 32 → cell 0 ++ cell v ≡ pointer v

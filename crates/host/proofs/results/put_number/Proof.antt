@@ -1,8 +1,8 @@
 -- Zero in the upper four bytes, then the number.
-use Rattle.glidecotton.proofs.Handing.{put-small}
+use Rattle.host.proofs.Handing.{put-small}
 use borrow.Author.Needs.{needs}
-use Rattle.glidecotton.proofs.results.put_number.Statement.{statement}
-use Rattle.glidecotton.proofs.results.put_number.Tie as tie
+use Rattle.host.proofs.results.put_number.Statement.{statement}
+use Rattle.host.proofs.results.put_number.Tie as tie
 
 put-cell-requires : tie.Need-put-cell-requires
 put-cell-requires c κs = search needs

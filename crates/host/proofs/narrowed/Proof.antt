@@ -1,8 +1,8 @@
 -- The test is the one that the definition makes.
 use borrow.Author.Tests.{lt-ltb, le-ltb}
 use borrow.Author.Needs.{needs}
-use Rattle.glidecotton.proofs.narrowed.Statement.{statement}
-use Rattle.glidecotton.proofs.narrowed.Tie as tie
+use Rattle.host.proofs.narrowed.Statement.{statement}
+use Rattle.host.proofs.narrowed.Tie as tie
 
 returns : tie.Need-returns
 returns c = simp (lt-ltb _ _ (c .if1 .taken))

@@ -4,7 +4,7 @@ ghost use Prim.Native.Nat.{_+_, _≤_};
 ghost use lib.ListN.{length};
 ghost use Rattle.state.specs.Layout.{cell, pointer};
 ghost use Rattle.state.specs.Parts.{Put};
-ghost use Rattle.glidecotton.specs.Handed.{numbersOf, resultSize};
+ghost use Rattle.host.specs.Handed.{numbersOf, resultSize};
 
 fn put_cell(result: &mut [u8], at: usize, value: u32) -> usize
     requires { ⌜ at + 4 ≤ length (now result) ⌝ }

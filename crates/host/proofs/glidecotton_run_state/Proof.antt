@@ -3,11 +3,11 @@ use mathlib.Core.Path.{_≡_, ap, _∙_}
 use native.Mathlib.Omega.{arith}
 use lib.ListN.{length}
 use Rattle.machine.specs.Run.{runOf}
-use Rattle.glidecotton.specs.Handed.{resultSize}
-use Rattle.glidecotton.proofs.Handing.{other-result, other-state, handed-back}
+use Rattle.host.specs.Handed.{resultSize}
+use Rattle.host.proofs.Handing.{other-result, other-state, handed-back}
 use borrow.Author.Needs.{needs}
-use Rattle.glidecotton.proofs.glidecotton_run_state.Statement.{statement}
-use Rattle.glidecotton.proofs.glidecotton_run_state.Tie as tie
+use Rattle.host.proofs.glidecotton_run_state.Statement.{statement}
+use Rattle.host.proofs.glidecotton_run_state.Tie as tie
 
 returns : tie.Need-returns
 returns c =

@@ -1,9 +1,9 @@
 -- The three numbers fill the buffer.
 use Rattle.state.proofs.Putting.{put-then, put-whole}
-use Rattle.glidecotton.specs.Handed.{numbersOf}
+use Rattle.host.specs.Handed.{numbersOf}
 use borrow.Author.Needs.{needs}
-use Rattle.glidecotton.proofs.results.put_numbers.Statement.{statement}
-use Rattle.glidecotton.proofs.results.put_numbers.Tie as tie
+use Rattle.host.proofs.results.put_numbers.Statement.{statement}
+use Rattle.host.proofs.results.put_numbers.Tie as tie
 
 put-number-requires : tie.Need-put-number-requires
 put-number-requires c κs = search needs

@@ -4,8 +4,8 @@ use lib.ListN.{length-set}
 use Rattle.state.specs.Layout.{cell}
 use Rattle.state.proofs.Putting.{put-four}
 use borrow.Author.Needs.{needs}
-use Rattle.glidecotton.proofs.results.put_cell.Statement.{statement}
-use Rattle.glidecotton.proofs.results.put_cell.Tie as tie
+use Rattle.host.proofs.results.put_cell.Statement.{statement}
+use Rattle.host.proofs.results.put_cell.Tie as tie
 
 cast-result : tie.Need-cast-result
 cast-result c = search needs

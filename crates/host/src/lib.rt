@@ -1,0 +1,41 @@
+// A run for hosts in other languages that hold a whole machine as bytes. It stands apart from the bench job, so that each of the
+// two exported functions has the run compiled into it.
+mod results;
+
+ghost use mathlib.Core.Path.{_≡_};
+ghost use Rattle.host.specs.Handed.{Hands};
+ghost use Rattle.host.specs.Budget.{narrowedTo};
+
+// A budget that 32 bits do not hold stays one that is refused.
+fn narrowed(budget: u64) -> u32
+    ensures { λ r. ⌜ r ≡ narrowedTo budget ⌝ }
+{
+    if 0xFFFFFFFF < budget {
+        return 0xFFFFFFFF;
+    }
+    budget as u32
+}
+
+// Runs a machine that a host holds as bytes, and hands it back the same way. Both buffers of its own are measured first,
+// so that a call that answers 2 touches nothing.
+#[no_mangle]
+pub extern "C" fn glidecotton_run_state(state: &mut [u8], memory: &mut [u8], budget: u64, result: &mut [u8]) -> u64
+    ensures { λ r. ⌜ Hands (now (state .entry)) (now (memory .entry)) budget (now (result .entry)) (record { number = r; state = now (state .exit); memory = now (memory .exit); result = now (result .exit) }) ⌝ }
+{
+    if result.len() != 24 {
+        return 2;
+    }
+    let taken = state::take(state);
+    let verdict = taken.verdict;
+    let state::Verdict::Good = verdict else {
+        return 2;
+    };
+    let machine = taken.machine;
+    let ran = run::run(memory, machine, narrowed(budget));
+    let after = ran.machine;
+    let steps = ran.steps;
+    let cycles = ran.cycles;
+    state::give(after, state);
+    results::put_numbers(result, ran.answer, steps.0, cycles.0);
+    0
+}
