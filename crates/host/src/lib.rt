@@ -19,7 +19,12 @@ fn narrowed(budget: u64) -> u32
 // Runs a machine that a host holds as bytes, and hands it back the same way. Both buffers of its own are measured first,
 // so that a call that answers 2 touches nothing.
 #[no_mangle]
-pub extern "C" fn glidecotton_run_state(state: &mut [u8], memory: &mut [u8], budget: u64, result: &mut [u8]) -> u64
+pub extern "C" fn glidecotton_run_state(
+    state: &mut [u8],
+    memory: &mut [u8],
+    budget: u64,
+    result: &mut [u8],
+) -> u64
     ensures { λ r. ⌜ Hands (now (state .entry)) (now (memory .entry)) budget (now (result .entry)) (record { number = r; state = now (state .exit); memory = now (memory .exit); result = now (result .exit) }) ⌝ }
 {
     if result.len() != 24 {
