@@ -21,12 +21,11 @@ module _ (mem : List ℕ) (at code : ℕ) (op : Op) (bytes takes puts cycles : �
   cut h = rw (stands, e, lt-ltb at 32768 inMemory, lt-ltb 32768 (at + bytes) h)
 
   -- it lies in memory
-  pub whole : (operand : ℕ) → at + bytes ≤ 32768 → operand ≡ operandAt op mem at →
-      Instruction code operand (at + bytes) ≡ fetchedOf (instructionAt mem at)
+  pub whole : (operand next : ℕ) → at + bytes ≤ 32768 → operand ≡ operandAt op mem at → next ≡ (at + bytes) % 2 ^ 32 →
+      Instruction code operand next ≡ fetchedOf (instructionAt mem at)
   unfolding instructionAt
-  whole operand h same =
-      let next : at + bytes ≡ (at + bytes) % 2 ^ 32 = omega arith in
-      rw (stands, e, lt-ltb at 32768 inMemory, le-ltb 32768 (at + bytes) h, same, ← next)
+  whole operand next h same after =
+      rw (stands, e, lt-ltb at 32768 inMemory, le-ltb 32768 (at + bytes) h, same, after)
 
 -- past the end of memory: test 3
 pub past : (mem : List ℕ) (at : ℕ) → 32768 ≤ at → Refused 3 ≡ fetchedOf (instructionAt mem at)
@@ -46,10 +45,10 @@ module _ (mem : List ℕ) (at code : ℕ) (stands : byteAt mem at ≡ code) (abo
       go true t = cut mem at code BEQ 2 1 0 2 stands (branch-entry true t) inMemory h
       go false t = cut mem at code BRA 2 0 0 2 stands (branch-entry false t) inMemory h
 
-  pub branch-whole : (operand : ℕ) → at + 2 ≤ 32768 → operand ≡ targetAt mem at →
-      Instruction code operand (at + 2) ≡ fetchedOf (instructionAt mem at)
-  branch-whole operand h same = go (ltb code 0xC0) refl
+  pub branch-whole : (operand next : ℕ) → at + 2 ≤ 32768 → operand ≡ targetAt mem at → next ≡ (at + 2) % 2 ^ 32 →
+      Instruction code operand next ≡ fetchedOf (instructionAt mem at)
+  branch-whole operand next h same after = go (ltb code 0xC0) refl
     where
-      go : (b : Bool) → ltb code 0xC0 ≡ b → Instruction code operand (at + 2) ≡ fetchedOf (instructionAt mem at)
-      go true t = whole mem at code BEQ 2 1 0 2 stands (branch-entry true t) inMemory operand h same
-      go false t = whole mem at code BRA 2 0 0 2 stands (branch-entry false t) inMemory operand h same
+      go : (b : Bool) → ltb code 0xC0 ≡ b → Instruction code operand next ≡ fetchedOf (instructionAt mem at)
+      go true t = whole mem at code BEQ 2 1 0 2 stands (branch-entry true t) inMemory operand next h same after
+      go false t = whole mem at code BRA 2 0 0 2 stands (branch-entry false t) inMemory operand next h same after

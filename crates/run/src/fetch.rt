@@ -8,69 +8,90 @@ ghost use Rattle.machine.specs.Memory.{byteAt};
 ghost use Rattle.machine.specs.Fetch.{instructionAt};
 ghost use Rattle.run.specs.Promises.{fetchedOf, FetchedAt, OneByte};
 
-fn literal_byte(mem: &[u8], at: usize) -> Fetched
-    requires { ⌜ (at < 32768) × (length (now mem) ≡ 32768) ⌝ }
-    ensures { λ r. ⌜ FetchedAt 0x34 (now (mem .entry)) at r ⌝ }
+fn literal_byte(mem: &[u8], counter: u32) -> Fetched
+    requires { ⌜ (counter < 32768) × (length (now mem) ≡ 32768) ⌝ }
+    ensures { λ r. ⌜ FetchedAt 0x34 (now (mem .entry)) counter r ⌝ }
 {
+    let at = counter as usize;
     if 32768 < at + 2 {
         return Fetched::Refused(3);
     }
-    Fetched::Instruction(0x34, bytes::literal_byte(mem, at + 1), (at + 2) as u32)
+    Fetched::Instruction(
+        0x34,
+        bytes::literal_byte(mem, at + 1),
+        std::num::wrapping_add_u32(counter, 2),
+    )
 }
 
-fn literal_word(mem: &[u8], at: usize) -> Fetched
-    requires { ⌜ (at < 32768) × (length (now mem) ≡ 32768) ⌝ }
-    ensures { λ r. ⌜ FetchedAt 0x35 (now (mem .entry)) at r ⌝ }
+fn literal_word(mem: &[u8], counter: u32) -> Fetched
+    requires { ⌜ (counter < 32768) × (length (now mem) ≡ 32768) ⌝ }
+    ensures { λ r. ⌜ FetchedAt 0x35 (now (mem .entry)) counter r ⌝ }
 {
+    let at = counter as usize;
     if 32768 < at + 3 {
         return Fetched::Refused(3);
     }
-    Fetched::Instruction(0x35, bytes::literal_word(mem, at + 1), (at + 3) as u32)
+    Fetched::Instruction(
+        0x35,
+        bytes::literal_word(mem, at + 1),
+        std::num::wrapping_add_u32(counter, 3),
+    )
 }
 
-fn literal_long(mem: &[u8], at: usize) -> Fetched
-    requires { ⌜ (at < 32768) × (length (now mem) ≡ 32768) ⌝ }
-    ensures { λ r. ⌜ FetchedAt 0x36 (now (mem .entry)) at r ⌝ }
+fn literal_long(mem: &[u8], counter: u32) -> Fetched
+    requires { ⌜ (counter < 32768) × (length (now mem) ≡ 32768) ⌝ }
+    ensures { λ r. ⌜ FetchedAt 0x36 (now (mem .entry)) counter r ⌝ }
 {
+    let at = counter as usize;
     if 32768 < at + 5 {
         return Fetched::Refused(3);
     }
-    Fetched::Instruction(0x36, bytes::literal_long(mem, at + 1), (at + 5) as u32)
+    Fetched::Instruction(
+        0x36,
+        bytes::literal_long(mem, at + 1),
+        std::num::wrapping_add_u32(counter, 5),
+    )
 }
 
 // JSL with its 24-bit address.
-fn subroutine(mem: &[u8], at: usize) -> Fetched
-    requires { ⌜ (at < 32768) × (length (now mem) ≡ 32768) ⌝ }
-    ensures { λ r. ⌜ FetchedAt 0x38 (now (mem .entry)) at r ⌝ }
+fn subroutine(mem: &[u8], counter: u32) -> Fetched
+    requires { ⌜ (counter < 32768) × (length (now mem) ≡ 32768) ⌝ }
+    ensures { λ r. ⌜ FetchedAt 0x38 (now (mem .entry)) counter r ⌝ }
 {
+    let at = counter as usize;
     if 32768 < at + 4 {
         return Fetched::Refused(3);
     }
-    Fetched::Instruction(0x38, bytes::read_address(mem, at), (at + 4) as u32)
+    Fetched::Instruction(
+        0x38,
+        bytes::read_address(mem, at),
+        std::num::wrapping_add_u32(counter, 4),
+    )
 }
 
 // BEQ or BRA with the address that it names.
-fn branch(mem: &[u8], at: usize, code: u8) -> Fetched
-    requires { ⌜ (at < 32768) × ((length (now mem) ≡ 32768) × ((0x80 ≤ code) × (byteAt (now mem) at ≡ code))) ⌝ }
-    ensures { λ r. ⌜ r ≡ fetchedOf (instructionAt (now (mem .entry)) at) ⌝ }
+fn branch(mem: &[u8], counter: u32, code: u8) -> Fetched
+    requires { ⌜ (counter < 32768) × ((length (now mem) ≡ 32768) × ((0x80 ≤ code) × (byteAt (now mem) counter ≡ code))) ⌝ }
+    ensures { λ r. ⌜ r ≡ fetchedOf (instructionAt (now (mem .entry)) counter) ⌝ }
 {
+    let at = counter as usize;
     if 32768 < at + 2 {
         return Fetched::Refused(3);
     }
-    let next = (at + 2) as u32;
+    let next = std::num::wrapping_add_u32(counter, 2);
     let offset = bytes::branch_offset(code, mem[at + 1]);
     Fetched::Instruction(code, std::num::wrapping_add_u32(next, offset), next)
 }
 
 // Every other code is one byte, the unknown ones too.
-fn plain(mem: &[u8], at: usize, code: u8) -> Fetched
-    requires { ⌜ (at < 32768) × ((length (now mem) ≡ 32768) × ((OneByte code) × (byteAt (now mem) at ≡ code))) ⌝ }
-    ensures { λ r. ⌜ r ≡ fetchedOf (instructionAt (now (mem .entry)) at) ⌝ }
+fn plain(mem: &[u8], counter: u32, code: u8) -> Fetched
+    requires { ⌜ (counter < 32768) × ((length (now mem) ≡ 32768) × ((OneByte code) × (byteAt (now mem) counter ≡ code))) ⌝ }
+    ensures { λ r. ⌜ r ≡ fetchedOf (instructionAt (now (mem .entry)) counter) ⌝ }
 {
     if 0x7F < code {
-        return branch(mem, at, code);
+        return branch(mem, counter, code);
     }
-    Fetched::Instruction(code, 0, (at + 1) as u32)
+    Fetched::Instruction(code, 0, std::num::wrapping_add_u32(counter, 1))
 }
 
 pub(crate) fn fetch(mem: &[u8], counter: u32) -> Fetched
@@ -83,10 +104,10 @@ pub(crate) fn fetch(mem: &[u8], counter: u32) -> Fetched
     }
     let code = mem[at];
     match code {
-        0x34 => literal_byte(mem, at),
-        0x35 => literal_word(mem, at),
-        0x36 => literal_long(mem, at),
-        0x38 => subroutine(mem, at),
-        _ => plain(mem, at, code),
+        0x34 => literal_byte(mem, counter),
+        0x35 => literal_word(mem, counter),
+        0x36 => literal_long(mem, counter),
+        0x38 => subroutine(mem, counter),
+        _ => plain(mem, counter, code),
     }
 }

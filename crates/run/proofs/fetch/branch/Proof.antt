@@ -1,7 +1,7 @@
 -- Both branches are two bytes; the target wraps.
 use Rattle.run.proofs.Fetching.{branch-cut, branch-whole}
 use native.Mathlib.Omega.{arith}
-use mathlib.Core.Path.{_∙_, ap, sym}
+use mathlib.Core.Path.{_≡_, _∙_, ap, sym}
 use Prim.Native.Nat.{ℕ, _+_, _*_, _%_, _^_}
 use Rattle.machine.specs.Memory.{byteAt}
 use Rattle.machine.specs.Fetch.{extended}
@@ -14,13 +14,10 @@ add-if1 c = search needs
 
 returns : tie.Need-returns
 returns c =
-    let a = c .before .before .args in branch-cut (a .mem .now) (a .at) (a .code) (c .before .before .pre .1 .1 .1) (omega arith) (omega arith) (c .if1 .taken)
+    let a = c .before .before .args in branch-cut (a .mem .now) (a .counter) (a .code) (c .before .before .pre .1 .1 .1) (omega arith) (omega arith) (c .if1 .taken)
 
-add-next : tie.Need-add-next
-add-next c = search needs
-
-cast-next : tie.Need-cast-next
-cast-next c = search needs
+wrapping-add-u32-requires : tie.Need-wrapping-add-u32-requires
+wrapping-add-u32-requires c κs = search needs
 
 add-branch-offset : tie.Need-add-branch-offset
 add-branch-offset c = search needs
@@ -31,16 +28,20 @@ shared-slice-read-branch-offset c = search needs
 branch-offset-requires : tie.Need-branch-offset-requires
 branch-offset-requires c κs = search needs
 
-wrapping-add-u32-requires : tie.Need-wrapping-add-u32-requires
-wrapping-add-u32-requires c κs = search needs
+wrapping-add-u32-requires-2 : tie.Need-wrapping-add-u32-requires-2
+wrapping-add-u32-requires-2 c κs = search needs
 
 returns-2 : tie.Need-returns-2
 returns-2 c =
-    let a = c .before .before .before .before .before .args in
-    branch-whole (a .mem .now) (a .at) (a .code) (c .before .before .before .before .before .pre .1 .1 .1) (omega arith) (omega arith) (c .wrapping-add-u32 .result) (omega arith)
-    (c .wrapping-add-u32 .ensures ∙
-    ap (λ (x : ℕ). (a .at + 2 + x) % 2 ^ 32) (c .before .branch-offset .ensures) ∙
-    ap (λ (x : ℕ). (a .at + 2 + extended (x % 2 ^ 6 * 2 ^ 8 + byteAt (a .mem .now) (a .at + 1))) % 2 ^ 32) (sym (c .before .before .before .before .before .pre .1 .1 .1)))
+    let a = c .before .before .before .before .before .before .args in
+    let next = c .before .before .before .wrapping-add-u32 in
+    let exact : next .result ≡ a .counter + 2 = omega (arith, next .ensures) in
+    branch-whole (a .mem .now) (a .counter) (a .code) (c .before .before .before .before .before .before .pre .1 .1 .1) (omega arith) (omega arith) (c .wrapping-add-u322 .result) (next .result) (omega arith)
+    (c .wrapping-add-u322 .ensures ∙
+    (ap (λ (x : ℕ). (x + c .before .branch-offset .result) % 2 ^ 32) exact ∙
+    (ap (λ (x : ℕ). (a .counter + 2 + x) % 2 ^ 32) (c .before .branch-offset .ensures) ∙
+    ap (λ (x : ℕ). (a .counter + 2 + extended (x % 2 ^ 6 * 2 ^ 8 + byteAt (a .mem .now) (a .counter + 1))) % 2 ^ 32) (sym (c .before .before .before .before .before .before .pre .1 .1 .1)))))
+    (next .ensures)
 
 pub branch-spec : {M : Type 1} → statement M
 branch-spec =
@@ -48,10 +49,9 @@ branch-spec =
     (tie.spec
     add-if1
     returns
-    add-next
-    cast-next
+    wrapping-add-u32-requires
     add-branch-offset
     shared-slice-read-branch-offset
     branch-offset-requires
-    wrapping-add-u32-requires
+    wrapping-add-u32-requires-2
     returns-2)

@@ -14,7 +14,7 @@ add-if1 c = search needs
 returns : tie.Need-returns
 unfolding entryAt table
 returns c =
-    let a = c .before .before .args in λ stands. cut (a .mem .now) (a .at) 0x34 (LITERAL Byte) 2 0 1 2 stands refl (omega arith) (c .if1 .taken)
+    let a = c .before .before .args in λ stands. cut (a .mem .now) (a .counter) 0x34 (LITERAL Byte) 2 0 1 2 stands refl (omega arith) (c .if1 .taken)
 
 add-literal-byte : tie.Need-add-literal-byte
 add-literal-byte c = search needs
@@ -22,18 +22,21 @@ add-literal-byte c = search needs
 literal-byte-requires : tie.Need-literal-byte-requires
 literal-byte-requires c κs = search needs
 
-add-t6 : tie.Need-add-t6
-add-t6 c = search needs
-
-cast-t7 : tie.Need-cast-t7
-cast-t7 c = search needs
+wrapping-add-u32-requires : tie.Need-wrapping-add-u32-requires
+wrapping-add-u32-requires c κs = search needs
 
 returns-2 : tie.Need-returns-2
 unfolding entryAt table
 returns-2 c =
-    let a = c .before .before .before .args in λ stands. whole (a .mem .now) (a .at) 0x34 (LITERAL Byte) 2 0 1 2 stands refl (omega arith) (c .literal-byte .result) (omega arith) (c .literal-byte .ensures)
+    let a = c .before .before .before .before .args in λ stands. whole (a .mem .now) (a .counter) 0x34 (LITERAL Byte) 2 0 1 2 stands refl (omega arith) (c .before .literal-byte .result) (c .wrapping-add-u32 .result) (omega arith) (c .before .literal-byte .ensures) (c .wrapping-add-u32 .ensures)
 
 pub literal-byte-spec : {M : Type 1} → statement M
 literal-byte-spec =
     tie.close
-    (tie.spec add-if1 returns add-literal-byte literal-byte-requires add-t6 cast-t7 returns-2)
+    (tie.spec
+    add-if1
+    returns
+    add-literal-byte
+    literal-byte-requires
+    wrapping-add-u32-requires
+    returns-2)

@@ -14,7 +14,7 @@ add-if1 c = search needs
 returns : tie.Need-returns
 unfolding entryAt table
 returns c =
-    let a = c .before .before .args in λ stands. cut (a .mem .now) (a .at) 0x35 (LITERAL Word) 3 0 1 2 stands refl (omega arith) (c .if1 .taken)
+    let a = c .before .before .args in λ stands. cut (a .mem .now) (a .counter) 0x35 (LITERAL Word) 3 0 1 2 stands refl (omega arith) (c .if1 .taken)
 
 add-literal-word : tie.Need-add-literal-word
 add-literal-word c = search needs
@@ -22,18 +22,21 @@ add-literal-word c = search needs
 literal-word-requires : tie.Need-literal-word-requires
 literal-word-requires c κs = search needs
 
-add-t6 : tie.Need-add-t6
-add-t6 c = search needs
-
-cast-t7 : tie.Need-cast-t7
-cast-t7 c = search needs
+wrapping-add-u32-requires : tie.Need-wrapping-add-u32-requires
+wrapping-add-u32-requires c κs = search needs
 
 returns-2 : tie.Need-returns-2
 unfolding entryAt table
 returns-2 c =
-    let a = c .before .before .before .args in λ stands. whole (a .mem .now) (a .at) 0x35 (LITERAL Word) 3 0 1 2 stands refl (omega arith) (c .literal-word .result) (omega arith) (c .literal-word .ensures)
+    let a = c .before .before .before .before .args in λ stands. whole (a .mem .now) (a .counter) 0x35 (LITERAL Word) 3 0 1 2 stands refl (omega arith) (c .before .literal-word .result) (c .wrapping-add-u32 .result) (omega arith) (c .before .literal-word .ensures) (c .wrapping-add-u32 .ensures)
 
 pub literal-word-spec : {M : Type 1} → statement M
 literal-word-spec =
     tie.close
-    (tie.spec add-if1 returns add-literal-word literal-word-requires add-t6 cast-t7 returns-2)
+    (tie.spec
+    add-if1
+    returns
+    add-literal-word
+    literal-word-requires
+    wrapping-add-u32-requires
+    returns-2)

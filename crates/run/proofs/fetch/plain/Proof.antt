@@ -15,20 +15,17 @@ branch-requires c κs = search needs
 returns : tie.Need-returns
 returns c = search needs
 
-add-t5 : tie.Need-add-t5
-add-t5 c = search needs
-
-cast-t6 : tie.Need-cast-t6
-cast-t6 c = search needs
+wrapping-add-u32-requires : tie.Need-wrapping-add-u32-requires
+wrapping-add-u32-requires c κs = search needs
 
 returns-2 : tie.Need-returns-2
 returns-2 c =
-    let a = c .before .before .args in
-    let o = c .before .before .pre .1 .1 .0 in
+    let a = c .before .before .before .args in
+    let o = c .before .before .before .pre .1 .1 .0 in
     let low : a .code < 0x80 = omega arith in
-    whole (a .mem .now) (a .at) (a .code) (entryAt (a .code) .op) 1 (entryAt (a .code) .takes) (entryAt (a .code) .puts)
-    (entryAt (a .code) .cycles) (c .before .before .pre .1 .1 .1) (entry-one (a .code) low o) (omega arith) 0 (omega arith)
-    (sym (operand-none (a .code) low o (a .mem .now) (a .at)))
+    whole (a .mem .now) (a .counter) (a .code) (entryAt (a .code) .op) 1 (entryAt (a .code) .takes) (entryAt (a .code) .puts)
+    (entryAt (a .code) .cycles) (c .before .before .before .pre .1 .1 .1) (entry-one (a .code) low o) (omega arith) 0 (c .wrapping-add-u32 .result) (omega arith)
+    (sym (operand-none (a .code) low o (a .mem .now) (a .counter))) (c .wrapping-add-u32 .ensures)
 
 pub plain-spec : {M : Type 1} → statement M
-plain-spec = tie.close (tie.spec branch-requires returns add-t5 cast-t6 returns-2)
+plain-spec = tie.close (tie.spec branch-requires returns wrapping-add-u32-requires returns-2)

@@ -13,23 +13,19 @@ add-if1 c = search needs
 returns : tie.Need-returns
 unfolding entryAt table
 returns c =
-    let a = c .before .before .args in λ stands. cut (a .mem .now) (a .at) 0x38 JSL 4 0 0 2 stands refl (omega arith) (c .if1 .taken)
+    let a = c .before .before .args in λ stands. cut (a .mem .now) (a .counter) 0x38 JSL 4 0 0 2 stands refl (omega arith) (c .if1 .taken)
 
 read-address-requires : tie.Need-read-address-requires
 read-address-requires c κs = search needs
 
-add-t3 : tie.Need-add-t3
-add-t3 c = search needs
-
-cast-t6 : tie.Need-cast-t6
-cast-t6 c = search needs
+wrapping-add-u32-requires : tie.Need-wrapping-add-u32-requires
+wrapping-add-u32-requires c κs = search needs
 
 returns-2 : tie.Need-returns-2
 unfolding entryAt table
 returns-2 c =
-    let a = c .before .before .before .args in λ stands. whole (a .mem .now) (a .at) 0x38 JSL 4 0 0 2 stands refl (omega arith) (c .read-address .result) (omega arith) (c .read-address .ensures)
+    let a = c .before .before .before .before .args in λ stands. whole (a .mem .now) (a .counter) 0x38 JSL 4 0 0 2 stands refl (omega arith) (c .before .read-address .result) (c .wrapping-add-u32 .result) (omega arith) (c .before .read-address .ensures) (c .wrapping-add-u32 .ensures)
 
 pub subroutine-spec : {M : Type 1} → statement M
 subroutine-spec =
-    tie.close
-    (tie.spec add-if1 returns read-address-requires add-t3 cast-t6 returns-2)
+    tie.close (tie.spec add-if1 returns read-address-requires wrapping-add-u32-requires returns-2)
