@@ -1,0 +1,100 @@
+// Answer 2 by direct calls: everything that a run may be handed and has to refuse, and calls that it takes.
+mod states;
+mod telling;
+
+use machine::Machine;
+
+// ZERO ZERO STORE.L, then ZERO all over: three steps alter the state and the memory. The store clears bytes 0 to 3, so that
+// the fourth instruction is NOP, and ZERO is refused once P is 64.
+const ZERO: u8 = 0x20;
+
+const STORE: u8 = 0x2E;
+
+// Whether the memory is as it was handed in.
+fn is_as_made(memory: &[u8]) -> bool {
+    let mut i = 0;
+    while i < memory.len() {
+        if i == 2 {
+            if memory[i] != STORE {
+                return false;
+            }
+        } else {
+            if memory[i] != ZERO {
+                return false;
+            }
+        }
+        i += 1;
+    }
+    true
+}
+
+// One call, and what came of it. States are compared as their bytes.
+fn knock(name: &[u8], memory: &mut [u8], machine: Machine, budget: u32) {
+    let mut before = [0u8; 3528];
+    let mut after = [0u8; 3528];
+    state::give(machine, &mut before);
+    let ran = run::run(memory, machine, budget);
+    let left = ran.machine;
+    let steps = ran.steps;
+    let cycles = ran.cycles;
+    state::give(left, &mut after);
+    telling::numbers(name, ran.answer, steps.0, cycles.0);
+    telling::kept(b", state ", check::same(&before, &after));
+    telling::kept(b", memory ", is_as_made(memory));
+    telling::end();
+}
+
+fn with_good_memory(name: &[u8], machine: Machine, budget: u32) {
+    let mut memory = [ZERO; 32768];
+    memory[2] = STORE;
+    knock(name, &mut memory, machine, budget);
+}
+
+fn with_short_memory(name: &[u8]) {
+    let mut memory = [ZERO; 32767];
+    memory[2] = STORE;
+    knock(name, &mut memory, Machine::fresh(), 3);
+}
+
+fn with_long_memory(name: &[u8]) {
+    let mut memory = [ZERO; 32769];
+    memory[2] = STORE;
+    knock(name, &mut memory, Machine::fresh(), 3);
+}
+
+fn with_state(name: &[u8], machine: Machine) {
+    with_good_memory(name, machine, 3);
+}
+
+fn main() {
+    with_state(b"fresh", Machine::fresh());
+    with_state(b"nested", states::nested([1, 2, 3], [1, 2], 63));
+    with_good_memory(b"budget 1000000", Machine::fresh(), 1000000);
+    with_good_memory(b"budget 1000001", Machine::fresh(), 1000001);
+    with_short_memory(b"memory of 32767");
+    with_long_memory(b"memory of 32769");
+    with_state(b"P 65", states::pointing(65, 0, 0, 0, 0));
+    with_state(b"R 65", states::pointing(0, 65, 0, 0, 0));
+    with_state(b"S 33", states::pointing(0, 0, 33, 0, 0));
+    with_state(b"E 9", states::pointing(0, 0, 0, 9, 0));
+    with_state(b"flag 2", states::pointing(0, 0, 0, 0, 2));
+    with_state(b"copies of R equal", states::nested([1, 1, 3], [1, 2], 63));
+    with_state(
+        b"copies of R falling",
+        states::nested([2, 1, 3], [1, 2], 63),
+    );
+    with_state(
+        b"last copy of R not below R",
+        states::nested([1, 2, 4], [1, 2], 63),
+    );
+    with_state(b"copies of S equal", states::nested([1, 2, 3], [1, 1], 63));
+    with_state(
+        b"copies of S falling",
+        states::nested([1, 2, 3], [2, 1], 63),
+    );
+    with_state(
+        b"last copy of S not below S",
+        states::nested([1, 2, 3], [1, 3], 63),
+    );
+    with_state(b"copy of P 64", states::nested([1, 2, 3], [1, 2], 64));
+}
