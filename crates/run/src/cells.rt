@@ -8,6 +8,7 @@ ghost use mathlib.Core.Path.{_≡_};
 ghost use Prim.Native.Nat.{ℕ, _≤_};
 ghost use Rattle.machine.specs.Codes.{NOP, DROP, DUP, SWAP, OVER, NIP, ROT, PSP-AT, ZERO, DUP-NONZERO, ONE, TWO, LITERAL};
 ghost use Rattle.machine.specs.declared.Width.{Width};
+ghost use Rattle.run.specs.Operations.{twoOf};
 ghost use Rattle.run.specs.Promises.{Meets, pushed, pushedCells};
 
 // ( -- value )
@@ -20,9 +21,9 @@ fn push(cells: &mut [u32; 64], value: u32, p: usize, flag: u32, next: u32) -> Do
     }
     cells[p] = value;
     Done::Went(Stack {
-        p: p + 1,
         flag,
         counter: next,
+        p: p + 1,
     })
 }
 
@@ -32,9 +33,9 @@ pub(crate) fn nothing(cells: &mut [u32; 64], p: usize, flag: u32, next: u32) -> 
     ensures { λ r. ⌜ ((operand : ℕ) → Meets NOP 0 operand next (now (cells .entry)) p flag (now (cells .exit)) r) ⌝ }
 {
     Done::Went(Stack {
-        p,
         flag,
         counter: next,
+        p,
     })
 }
 
@@ -47,9 +48,9 @@ pub(crate) fn discard(cells: &mut [u32; 64], p: usize, flag: u32, next: u32) -> 
         return Done::Refused(5);
     }
     Done::Went(Stack {
-        p: p - 1,
         flag,
         counter: next,
+        p: p - 1,
     })
 }
 
@@ -78,9 +79,9 @@ pub(crate) fn swap(cells: &mut [u32; 64], p: usize, flag: u32, next: u32) -> Don
     cells[p - 2] = y;
     cells[p - 1] = x;
     Done::Went(Stack {
-        p,
         flag,
         counter: next,
+        p,
     })
 }
 
@@ -107,9 +108,9 @@ pub(crate) fn nip(cells: &mut [u32; 64], p: usize, flag: u32, next: u32) -> Done
     let y = cells[p - 1];
     cells[p - 2] = y;
     Done::Went(Stack {
-        p: p - 1,
         flag,
         counter: next,
+        p: p - 1,
     })
 }
 
@@ -128,9 +129,9 @@ pub(crate) fn rot(cells: &mut [u32; 64], p: usize, flag: u32, next: u32) -> Done
     cells[p - 2] = z;
     cells[p - 1] = x;
     Done::Went(Stack {
-        p,
         flag,
         counter: next,
+        p,
     })
 }
 
@@ -169,9 +170,9 @@ pub(crate) fn dup_nonzero(cells: &mut [u32; 64], p: usize, flag: u32, next: u32)
     let x = cells[p - 1];
     if x == 0 {
         return Done::Went(Stack {
-            p,
             flag,
             counter: next,
+            p,
         });
     }
     push(cells, x, p, flag, next)
@@ -189,39 +190,66 @@ pub(crate) fn one(cells: &mut [u32; 64], op: OneCell, p: usize, flag: u32, next:
     let changed = word::one_cell(op, x, flag);
     cells[p - 1] = changed.value;
     Done::Went(Stack {
-        p,
         flag: changed.flag,
         counter: next,
+        p,
     })
 }
 
+// The operation on two cells that a code names. The code comes as a number, since an enum is passed by reference and the
+// compiler would then see no constant in it.
+fn two_of(code: u8) -> TwoCells
+    ensures { λ r. ⌜ r ≡ twoOf code ⌝ }
+{
+    match code {
+        0x0E => TwoCells::Plus,
+        0x0F => TwoCells::Minus,
+        0x14 => TwoCells::AddExtended,
+        0x15 => TwoCells::SubtractExtended,
+        0x16 => TwoCells::Equal,
+        0x17 => TwoCells::Unequal,
+        0x18 => TwoCells::Less,
+        0x19 => TwoCells::Greater,
+        0x1A => TwoCells::Below,
+        0x1B => TwoCells::Above,
+        0x21 => TwoCells::AndBits,
+        0x22 => TwoCells::OrBits,
+        0x24 => TwoCells::XorBits,
+        0x29 => TwoCells::MultiplySigned,
+        0x2A => TwoCells::MultiplyUnsigned,
+        0x2B => TwoCells::DivideSigned,
+        _ => TwoCells::DivideUnsigned,
+    }
+}
+
 // ( x y -- value ) or ( x y -- under top ) arithmetic on two cells
-pub(crate) fn two(cells: &mut [u32; 64], op: TwoCells, p: usize, flag: u32, next: u32) -> Done
+pub(crate) fn two(cells: &mut [u32; 64], code: u8, p: usize, flag: u32, next: u32) -> Done
     requires { ⌜ p ≤ 64 ⌝ }
-    ensures { λ r. ⌜ ((operand : ℕ) → Meets (TWO op) 2 operand next (now (cells .entry)) p flag (now (cells .exit)) r) ⌝ }
+    ensures { λ r. ⌜ ((operand : ℕ) → Meets (TWO (twoOf code)) 2 operand next (now (cells .entry)) p flag (now (cells .exit)) r) ⌝ }
 {
     if p < 2 {
         return Done::Refused(5);
     }
     let x = cells[p - 2];
     let y = cells[p - 1];
+    let op = two_of(code);
     let outcome = word::two_cells(op, x, y, flag);
     match outcome {
         Outcome::Single(value, after) => {
             cells[p - 2] = value;
             Done::Went(Stack {
-                p: p - 1,
                 flag: after,
                 counter: next,
+                p: p - 1,
             })
         }
         Outcome::Double(under, top, after) => {
             cells[p - 2] = under;
             cells[p - 1] = top;
             Done::Went(Stack {
-                p,
                 flag: after,
                 counter: next,
+                p,
             })
         }
         Outcome::DivisorZero => Done::Refused(13),

@@ -15,9 +15,9 @@ pub(crate) fn jump(cells: &mut [u32; 64], p: usize, flag: u32, next: u32) -> Don
     }
     let to = cells[p - 1];
     Done::Went(Stack {
-        p: p - 1,
         flag,
         counter: to,
+        p: p - 1,
     })
 }
 
@@ -38,15 +38,15 @@ pub(crate) fn branch_on_zero(
     let x = cells[p - 1];
     if x == 0 {
         return Done::Went(Stack {
-            p: p - 1,
             flag,
             counter: operand,
+            p: p - 1,
         });
     }
     Done::Went(Stack {
-        p: p - 1,
         flag,
         counter: next,
+        p: p - 1,
     })
 }
 
@@ -56,8 +56,8 @@ pub(crate) fn branch(cells: &mut [u32; 64], operand: u32, p: usize, flag: u32, n
     ensures { λ r. ⌜ Meets BRA 0 operand next (now (cells .entry)) p flag (now (cells .exit)) r ⌝ }
 {
     Done::Went(Stack {
-        p,
         flag,
         counter: operand,
+        p,
     })
 }

@@ -43,11 +43,12 @@ enum Fetched {
     Refused(u32),
 }
 
-// The depth, the flag and the counter after an instruction that touches the parameter cells alone.
+// The flag, the counter and the depth after an instruction that touches the parameter cells alone. The depth stands last:
+// a field as wide as a refusal's number would make the compiler join the two stores and keep the answer in memory.
 struct Stack {
-    p: usize,
     flag: u32,
     counter: u32,
+    p: usize,
 }
 
 enum Done {
