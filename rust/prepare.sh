@@ -5,6 +5,7 @@ stand_in=
 if [ -n "${GLIDECOTTON_STAND_IN:-}" ]; then
     stand_in=--stand-in
 else
+    [ "$(uname -m)" = x86_64 ] || . ./kit.sh
     (cd .. && rt staticlib glidecotton && rt staticlib host)
 fi
 cargo build --release --offline --quiet
