@@ -11,7 +11,7 @@ use Rattle.links.specs.Choice.{pick, both}
 use Rattle.machine.specs.Codes.{Entry, entry, table, entryAt, cyclesOf, cycleTable, UNKNOWN, BEQ, BRA}
 use Rattle.machine.specs.Fetch.{Instruction, instructionAt}
 use Rattle.machine.specs.Rows.{top}
-use Rattle.machine.specs.Step.{Stepped, refused, done, stepOf, costOf}
+use Rattle.machine.specs.Step.{Stepped, refused, done, stepOf, costOf, cyclesOfThrowOfZero}
 use Rattle.machine.specs.Run.{After, ended, runFrom}
 use Rattle.machine.specs.Passed.{step-done}
 use Rattle.machine.specs.Tables.{every, everywhere, both-parts, getD-within}
@@ -81,7 +81,7 @@ cycles-bounded code =
 pub cost-bounded : (i : Instruction) (m : Machine) → (1 ≤ costOf i m) × (costOf i m ≤ 42)
 cost-bounded i m = go (both (eqb (i .code) 0x0D) (eqb (top m) 0))
   where
-    go : (b : Bool) → (1 ≤ pick b 1 (cyclesOf (i .code))) × (pick b 1 (cyclesOf (i .code)) ≤ 42)
+    go : (b : Bool) → (1 ≤ pick b cyclesOfThrowOfZero (cyclesOf (i .code))) × (pick b cyclesOfThrowOfZero (cyclesOf (i .code)) ≤ 42)
     go true = (omega arith, omega arith)
     go false = cycles-bounded (i .code)
 

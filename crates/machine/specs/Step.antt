@@ -29,9 +29,13 @@ put row m =
       flag = row .flag;
     }
 
--- the cycle table's count; THROW of 0 is its one exception
+-- the cycle table's one exception
+abbrev pub cyclesOfThrowOfZero : ℕ
+cyclesOfThrowOfZero = 1
+
+-- the cycle table's count, but for THROW of 0
 abbrev pub costOf : Instruction → Machine → ℕ
-costOf i m = pick (both (eqb (i .code) 0x0D) (eqb (top m) 0)) 1 (cyclesOf (i .code))
+costOf i m = pick (both (eqb (i .code) 0x0D) (eqb (top m) 0)) cyclesOfThrowOfZero (cyclesOf (i .code))
 
 -- refused by the first test that holds
 abbrev pub unless : List Test → Stepped → Stepped

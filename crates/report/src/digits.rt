@@ -1,6 +1,7 @@
 // Numbers as characters, each put after the text so far; a function returns where the text then ends.
 ghost use mathlib.Core.Path.{_≡_};
-ghost use Prim.Native.Nat.{_+_, _<_, _≤_};
+ghost use mathlib.Core.List.{[], _∷_};
+ghost use Prim.Native.Nat.{_+_, _%_, _<_, _≤_};
 ghost use lib.ListN.{length};
 ghost use Rattle.report.specs.Text.{digit, decimal, hexDigits, field};
 ghost use Rattle.report.specs.Put.{Put};
@@ -30,17 +31,35 @@ fn put_decimal(text: &mut [u8], at: usize, value: usize) -> usize
     last + 1
 }
 
-// As many hexadecimal digits as are asked for, the highest first.
-pub(crate) fn put_hexadecimal(text: &mut [u8], at: usize, value: u32, count: usize) -> usize
-    requires { ⌜ at + count ≤ length (now text) ⌝ }
-    ensures { λ r. ⌜ Put (now (text .entry)) at (hexDigits count value) (now (text .exit)) r ⌝ }
+// The last hexadecimal digit of a number.
+fn put_digit(text: &mut [u8], at: usize, value: u32) -> usize
+    requires { ⌜ at < length (now text) ⌝ }
+    ensures { λ r. ⌜ Put (now (text .entry)) at (digit (value % 16) ∷ []) (now (text .exit)) r ⌝ }
 {
-    if count == 0 {
-        return at;
-    }
-    let last = put_hexadecimal(text, at, value / 16, count - 1);
-    text[last] = digit_of((value % 16) as u8);
-    last + 1
+    text[at] = digit_of((value % 16) as u8);
+    at + 1
+}
+
+// Eight hexadecimal digits, the highest first; a digit for each sixteenth part, with no call that a small run would wait for.
+pub(crate) fn put_hexadecimal(text: &mut [u8], at: usize, value: u32) -> usize
+    requires { ⌜ at + 8 ≤ length (now text) ⌝ }
+    ensures { λ r. ⌜ Put (now (text .entry)) at (hexDigits 8 value) (now (text .exit)) r ⌝ }
+{
+    let seven = value / 16;
+    let six = seven / 16;
+    let five = six / 16;
+    let four = five / 16;
+    let three = four / 16;
+    let two = three / 16;
+    let one = two / 16;
+    let mut end = put_digit(text, at, one);
+    end = put_digit(text, end, two);
+    end = put_digit(text, end, three);
+    end = put_digit(text, end, four);
+    end = put_digit(text, end, five);
+    end = put_digit(text, end, six);
+    end = put_digit(text, end, seven);
+    put_digit(text, end, value)
 }
 
 // A number and the character after it: at most 21 characters.

@@ -27,7 +27,7 @@ pub(crate) fn put_cells(text: &mut [u8], from: usize, cells: [u32; 64], count: u
     let mut at = from;
     let mut i = 0;
     while i < count {
-        at = digits::put_hexadecimal(text, at, cells[i], 8);
+        at = digits::put_hexadecimal(text, at, cells[i]);
         text[at] = 0x0A;
         at += 1;
         i += 1;
