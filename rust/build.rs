@@ -24,11 +24,7 @@ fn main() {
     println!("cargo:rustc-link-lib=static=plain");
 
     if env::var_os("GLIDECOTTON_STAND_IN").is_some() || !PROVED.iter().all(|library| Path::new(library).exists()) {
-        archive(
-            &out,
-            "glidecotton",
-            &["-Dplain_bench=glidecotton_bench", "-Dplain_run_state=glidecotton_run_state"],
-        );
+        archive(&out, "glidecotton", &["-Dplain_bench=glidecotton_bench", "-Dplain_run_state=glidecotton_run_state"]);
         println!("cargo:rustc-cfg=stand_in");
     } else {
         for library in PROVED.map(Path::new) {

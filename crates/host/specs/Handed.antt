@@ -1,11 +1,11 @@
 -- A machine that a host hands in as bytes: it is run, and handed back as bytes.
-use mathlib.Core.List.{List, _++_}
+use mathlib.Core.List.{List}
 use mathlib.Core.Path.{_≡_}
 use Prim.Native.Nat.{ℕ}
 use lib.ListN.{length}
 use Rattle.machine.specs.Run.{After, runOf}
 use Rattle.machine.specs.declared.Machine.{Machine}
-use Rattle.state.specs.Layout.{stateBytes, stateSize, pointer}
+use Rattle.state.specs.Layout.{stateBytes, stateSize, numbersOf, resultSize}
 use Rattle.state.specs.Fitting.{Fits}
 
 -- the number, and the three lent buffers afterwards
@@ -14,13 +14,6 @@ pub record Handed : Type 0 where
   pub state : List ℕ
   pub memory : List ℕ
   pub result : List ℕ
-
--- the result: answer, steps and cycles, each of 8 bytes, big endian
-abbrev pub resultSize : ℕ
-resultSize = 24
-
-unfoldable pub numbersOf : ℕ → ℕ → ℕ → List ℕ
-numbersOf answer steps cycles = pointer answer ++ pointer steps ++ pointer cycles
 
 -- what a run leaves, for the host; a run that answers 2 leaves its state and memory as they were
 abbrev pub handedBack : After → Handed

@@ -1,7 +1,5 @@
 // A run for hosts in other languages that hold a whole machine as bytes. It stands apart from the bench job, so that each of the
 // two exported functions has the run compiled into it.
-mod results;
-
 ghost use mathlib.Core.Path.{_≡_};
 ghost use Rattle.host.specs.Handed.{Hands};
 ghost use Rattle.host.specs.Budget.{narrowedTo};
@@ -41,6 +39,6 @@ pub extern "C" fn glidecotton_run_state(
     let steps = ran.steps;
     let cycles = ran.cycles;
     state::give(after, state);
-    results::put_numbers(result, ran.answer, steps.0, cycles.0);
+    state::give_counts(ran.answer, steps.0, cycles.0, result);
     0
 }

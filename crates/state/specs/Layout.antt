@@ -40,3 +40,10 @@ stateBytes m = each cell (m .cells) ++ pointer (m .p) ++ linksBytes (m .links) +
 -- how many bytes that is
 abbrev pub stateSize : ℕ
 stateSize = 3528
+
+-- what a run counted: its answer, steps and cycles, each as a pointer is
+unfoldable pub numbersOf : ℕ → ℕ → ℕ → List ℕ
+numbersOf answer steps cycles = pointer answer ++ pointer steps ++ pointer cycles
+
+abbrev pub resultSize : ℕ
+resultSize = 24

@@ -1,4 +1,4 @@
--- What taking a machine from bytes and giving it as bytes answer.
+-- What taking a machine from bytes, giving it as bytes and giving a run's counts answer.
 use mathlib.Core.List.{List}
 use mathlib.Core.Path.{_≡_}
 use Prim.Native.Nat.{ℕ}
@@ -7,7 +7,7 @@ use lib.ListN.{length}
 use Rattle.links.specs.Choice.{pick}
 use Rattle.machine.specs.declared.Machine.{Machine}
 use Rattle.machine.specs.State.{freshMachine}
-use Rattle.state.specs.Layout.{stateBytes, stateSize}
+use Rattle.state.specs.Layout.{stateBytes, stateSize, numbersOf, resultSize}
 use Rattle.state.specs.Fitting.{Fits}
 use Rattle.state.specs.declared.Taken.{Taken}
 use Rattle.state.specs.declared.Verdict.{Verdict}
@@ -27,11 +27,18 @@ pub data Takes (state : List ℕ) : Taken → Type 0 where
 -- the verdict, and the lent buffer afterwards
 pub record Given : Type 0 where
   pub verdict : Verdict
-  pub state : List ℕ
+  pub buffer : List ℕ
 
--- another length is 2, untouched; else every byte is the machine's
-unfoldable pub givenOf : Machine → List ℕ → Given
-givenOf m before =
-    pick (eqb (length before) stateSize)
-    (record { verdict = Good; state = stateBytes m })
-    (record { verdict = Refused 2; state = before })
+-- another length is 2, untouched; else the buffer is those bytes
+unfoldable pub filledWith : ℕ → List ℕ → List ℕ → Given
+filledWith size bytes before =
+    pick (eqb (length before) size)
+    (record { verdict = Good; buffer = bytes })
+    (record { verdict = Refused 2; buffer = before })
+
+-- a machine, and what its run counted
+abbrev pub givenOf : Machine → List ℕ → Given
+givenOf m before = filledWith stateSize (stateBytes m) before
+
+abbrev pub countsOf : ℕ → ℕ → ℕ → List ℕ → Given
+countsOf answer steps cycles before = filledWith resultSize (numbersOf answer steps cycles) before

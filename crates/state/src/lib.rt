@@ -1,4 +1,4 @@
-// A whole machine as bytes, both ways: for hosts that hold a machine only as a buffer.
+// A whole machine as bytes, both ways, and what its run counted: for hosts that hold a machine only as a buffer.
 // The order of the bytes is one definition (specs/Layout.antt).
 mod places;
 mod reading;
@@ -6,7 +6,7 @@ mod writing;
 
 use machine::Machine;
 ghost use mathlib.Core.Path.{_≡_};
-ghost use Rattle.state.specs.Promise.{Takes, givenOf, refusedWith};
+ghost use Rattle.state.specs.Promise.{Takes, givenOf, countsOf, refusedWith};
 
 // A buffer of the right length has no answer number.
 pub enum Verdict {
@@ -58,7 +58,7 @@ pub fn take(state: &[u8]) -> Taken
 
 // The whole buffer is written, or nothing of it.
 pub fn give(machine: Machine, state: &mut [u8]) -> Verdict
-    ensures { λ r. ⌜ record { verdict = r; state = now (state .exit) } ≡ givenOf machine (now (state .entry)) ⌝ }
+    ensures { λ r. ⌜ record { verdict = r; buffer = now (state .exit) } ≡ givenOf machine (now (state .entry)) ⌝ }
 {
     if state.len() != places::SIZE {
         return Verdict::Refused(2);
@@ -70,5 +70,18 @@ pub fn give(machine: Machine, state: &mut [u8]) -> Verdict
     let after_links = writing::put_links(state, after_p, links);
     let after_counter = writing::put_cell(state, after_links, machine.counter);
     writing::put_cell(state, after_counter, machine.flag);
+    Verdict::Good
+}
+
+// What a run counted, as three numbers of 8 bytes. The whole buffer is written, or nothing of it.
+pub fn give_counts(answer: u32, steps: u32, cycles: u32, result: &mut [u8]) -> Verdict
+    ensures { λ r. ⌜ record { verdict = r; buffer = now (result .exit) } ≡ countsOf answer steps cycles (now (result .entry)) ⌝ }
+{
+    if result.len() != places::RESULT {
+        return Verdict::Refused(2);
+    }
+    let after_answer = writing::put_pointer(result, 0, answer as usize);
+    let after_steps = writing::put_pointer(result, after_answer, steps as usize);
+    writing::put_pointer(result, after_steps, cycles as usize);
     Verdict::Good
 }

@@ -11,3 +11,6 @@ pub(crate) const FLAG: usize = 3524;
 
 // How long a state is.
 pub(crate) const SIZE: usize = 3528;
+
+// How long the three numbers of a run are.
+pub(crate) const RESULT: usize = 24;

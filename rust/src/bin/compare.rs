@@ -16,15 +16,10 @@ use glidecotton_rust::tally::grouped;
 const USAGE: &str = "compare [--seed N] [--images N] [--states N] [--short] [--stand-in]";
 
 fn main() -> ExitCode {
-    let arguments = Arguments::from_command_line();
-    if arguments.has("--help") {
-        println!("{USAGE}");
-        return ExitCode::SUCCESS;
-    }
-    if STAND_IN && !arguments.has("--stand-in") {
-        eprintln!("compare: the proved library is not linked; --stand-in tries the plain C interpreter in its place");
-        return ExitCode::from(2);
-    }
+    let arguments = match Arguments::of_program(USAGE) {
+        Ok(arguments) => arguments,
+        Err(end) => return end,
+    };
     let short = arguments.has("--short");
     let seed = arguments.number("--seed", 1);
     let images = arguments.number("--images", if short { 400_000 } else { 3_000_000 });

@@ -55,15 +55,10 @@ fn model_bench(image: &[u8], memory: &mut [u8], out: &mut [u8]) -> u64 {
 }
 
 fn main() -> ExitCode {
-    let arguments = Arguments::from_command_line();
-    if arguments.has("--help") {
-        println!("{USAGE}");
-        return ExitCode::SUCCESS;
-    }
-    if STAND_IN && !arguments.has("--stand-in") {
-        eprintln!("speed: the proved library is not linked; --stand-in tries the plain C interpreter in its place");
-        return ExitCode::from(2);
-    }
+    let arguments = match Arguments::of_program(USAGE) {
+        Ok(arguments) => arguments,
+        Err(end) => return end,
+    };
     let images = speed_images();
     if let Some(name) = arguments.value("--counted") {
         // This is the process that callgrind watches.

@@ -3,7 +3,7 @@ use mathlib.Core.Path.{_≡_, ap, _∙_}
 use native.Mathlib.Omega.{arith}
 use lib.ListN.{length}
 use Rattle.machine.specs.Run.{runOf}
-use Rattle.host.specs.Handed.{resultSize}
+use Rattle.state.specs.Layout.{resultSize}
 use Rattle.host.proofs.Handing.{other-result, other-state, handed-back}
 use borrow.Author.Needs.{needs}
 use Rattle.host.proofs.glidecotton_run_state.Statement.{statement}
@@ -43,8 +43,8 @@ run-requires c κs = search needs
 give-requires : tie.Need-give-requires
 give-requires c κs = search needs
 
-put-numbers-requires : tie.Need-put-numbers-requires
-put-numbers-requires c κs = search needs
+give-counts-requires : tie.Need-give-counts-requires
+give-counts-requires c κs = search needs
 
 same-length-2 : tie.Need-same-length-2
 same-length-2 c = search needs
@@ -63,7 +63,7 @@ returns-3 c =
     let ran = c .before .before .before .before .before .before .before .before .before .before .before .before .before .run in
     let long : length (a .result .now) ≡ resultSize = omega (arith, c .before .before .before .before .before .before .before .before .before .before .before .before .before .before .before .before .before .before .before .before .before .if1 .left) in
     handed-back (a .state .now) (a .memory .now) (a .budget) (a .result .now) _ _ _ _ (c .before .before .before .before .before .before .before .before .before .before .before .before .before .before .before .before .before .before .before .take .ensures) (c .before .before .before .before .before .before .before .before .before .before .before .before .before .before .before .before .before .enum-told .given .1) long
-    (ran .ensures ∙ ap (runOf (a .memory .now) _) (narrow .ensures)) (c .before .before .before .before .before .before .give .ensures) (c .before .before .put-numbers .ensures)
+    (ran .ensures ∙ ap (runOf (a .memory .now) _) (narrow .ensures)) (c .before .before .before .before .before .before .give .ensures) (c .before .before .give-counts .ensures)
 
 pub glidecotton-run-state-spec : {M : Type 1} → statement M
 glidecotton-run-state-spec =
@@ -78,7 +78,7 @@ glidecotton-run-state-spec =
     narrowed-requires
     run-requires
     give-requires
-    put-numbers-requires
+    give-counts-requires
     same-length-2
     same-length-3
     same-length-4

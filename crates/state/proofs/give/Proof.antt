@@ -4,14 +4,14 @@ use native.Mathlib.Omega.{arith}
 use borrow.Author.Needs.{needs}
 use lib.Dec.{lit≤}
 use lib.ListN.{length}
-use Rattle.state.specs.Layout.{stateBytes}
+use Rattle.state.specs.Layout.{stateBytes, stateSize}
 use Rattle.state.proofs.Putting.{put-counted, put-then, put-whole, room}
 use Rattle.state.proofs.Giving.{filled, given-good, given-refused}
 use Rattle.state.proofs.give.Statement.{statement}
 use Rattle.state.proofs.give.Tie as tie
 
 returns : tie.Need-returns
-returns c = given-refused (c .before .before .args .machine) (c .before .before .args .state .now) (c .if1 .taken)
+returns c = given-refused stateSize (stateBytes (c .before .before .args .machine)) (c .before .before .args .state .now) (c .if1 .taken)
 
 slice-aggregate-put-row : tie.Need-slice-aggregate-put-row
 slice-aggregate-put-row c = search needs
@@ -27,7 +27,7 @@ put-pointer-requires c κs =
     let at₁ = c .before .before .before in
     let start = at₁ .before .before .before .before .before .before .before in
     let put₁ = put-counted 64 (start .args .machine .cells) (slice-aggregate-put-row (at₁ .before)) (at₁ .put-row .ensures) in
-    room put₁ 3528 8 (lit≤ tt) (filled (start .args .state .now) (at₁ .before .before .before .before .before .if1 .left))
+    room put₁ 3528 8 (lit≤ tt) (filled stateSize (stateBytes (start .args .machine)) (start .args .state .now) (at₁ .before .before .before .before .before .if1 .left))
 
 put-links-requires : tie.Need-put-links-requires
 put-links-requires c κs =
@@ -36,7 +36,7 @@ put-links-requires c κs =
     let start = at₁ .before .before .before .before .before .before .before in
     let put₁ = put-counted 64 (start .args .machine .cells) (slice-aggregate-put-row (at₁ .before)) (at₁ .put-row .ensures) in
     let put₂ = put-then put₁ (at₂ .put-pointer .ensures) in
-    room put₂ 3528 3256 (lit≤ tt) (filled (start .args .state .now) (at₁ .before .before .before .before .before .if1 .left))
+    room put₂ 3528 3256 (lit≤ tt) (filled stateSize (stateBytes (start .args .machine)) (start .args .state .now) (at₁ .before .before .before .before .before .if1 .left))
 
 put-cell-requires : tie.Need-put-cell-requires
 put-cell-requires c κs =
@@ -47,7 +47,7 @@ put-cell-requires c κs =
     let put₁ = put-counted 64 (start .args .machine .cells) (slice-aggregate-put-row (at₁ .before)) (at₁ .put-row .ensures) in
     let put₂ = put-then put₁ (at₂ .put-pointer .ensures) in
     let put₃ = put-then put₂ (at₃ .put-links .ensures) in
-    room put₃ 3528 4 (lit≤ tt) (filled (start .args .state .now) (at₁ .before .before .before .before .before .if1 .left))
+    room put₃ 3528 4 (lit≤ tt) (filled stateSize (stateBytes (start .args .machine)) (start .args .state .now) (at₁ .before .before .before .before .before .if1 .left))
 
 put-cell-requires-2 : tie.Need-put-cell-requires-2
 put-cell-requires-2 c κs =
@@ -60,7 +60,7 @@ put-cell-requires-2 c κs =
     let put₂ = put-then put₁ (at₂ .put-pointer .ensures) in
     let put₃ = put-then put₂ (at₃ .put-links .ensures) in
     let put₄ = put-then put₃ (at₄ .put-cell .ensures) in
-    room put₄ 3528 4 (lit≤ tt) (filled (start .args .state .now) (at₁ .before .before .before .before .before .if1 .left))
+    room put₄ 3528 4 (lit≤ tt) (filled stateSize (stateBytes (start .args .machine)) (start .args .state .now) (at₁ .before .before .before .before .before .if1 .left))
 
 same-length : tie.Need-same-length
 same-length c = search needs
@@ -80,7 +80,7 @@ returns-2 c =
     let put₄ = put-then put₃ (at₄ .put-cell .ensures) in
     let put₅ = put-then put₄ (at₅ .put-cell2 .ensures) in
     let long = at₁ .before .before .before .before .before .if1 .left in
-    given-good (start .args .machine) (start .args .state .now) (at₅ .put-cell2 .last .0) long (put-whole put₅ long)
+    given-good stateSize (stateBytes (start .args .machine)) (start .args .state .now) (at₅ .put-cell2 .last .0) long (put-whole put₅ long)
 
 pub give-spec : {M : Type 1} → statement M
 give-spec =
