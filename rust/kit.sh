@@ -16,3 +16,4 @@ ln -s "$PWD/clang-for-this-machine" "$kit/$tools/bin/clang"
 ln -s "$from/$tools/bin/clang" "$kit/$tools/bin/real-clang"
 for folder in "$tools/bin" "$tools" "$inner" on .; do link_rest "$folder"; done
 export RATTLE_HOME=$kit
+echo "the proved library is compiled for $(uname -m)"

@@ -14,10 +14,8 @@ use glidecotton_rust::speed_images::{speed_images, SpeedImage};
 
 const USAGE: &str = "speed [--stand-in] [--no-counting]";
 
-/// A ratio above this is marked.
-const MARK: f64 = 1.5;
-/// A ratio of instructions above this fails.
-const LIMIT: f64 = 2.0;
+/// A ratio above this is marked, and one of instructions fails.
+const LIMIT: f64 = 1.5;
 /// Rounds of timing, of which the quickest counts.
 const ROUNDS: usize = 15;
 /// Callgrind counts a string instruction once for each byte it moves; this keeps the C library from using them.
@@ -167,7 +165,7 @@ fn print_table(title: &str, images: &[SpeedImage], measure: fn(usize, &SpeedImag
         let [c, proved, model] = measure(index, image);
         let ratio = proved / c;
         let unit = if image.per_step { "a step" } else { "a run" };
-        let mark = if ratio > MARK { " !" } else { "" };
+        let mark = if ratio > LIMIT { " !" } else { "" };
         println!(
             "  {:<13}{unit:<9}{c:>10.1}{proved:>10.1}{model:>10.1}{:>10.2}{ratio:>10.2}  {}{mark}",
             image.name,
