@@ -103,6 +103,10 @@ pub(crate) fn fetch(mem: &[u8], counter: u32) -> Fetched
         return Fetched::Refused(3);
     }
     let code = mem[at];
+    // Most codes lie below those that bytes follow.
+    if code < 0x34 {
+        return plain(mem, counter, code);
+    }
     match code {
         0x34 => literal_byte(mem, counter),
         0x35 => literal_word(mem, counter),
