@@ -18,8 +18,8 @@ pub put-one : (l : List ℕ) (at b : ℕ) → at < length l → Put l at (b ∷ 
 put-one l at b h =
     record { next-is = refl; text-is = ap (λ (n : ℕ). take n (set l at b)) (add-one at) ∙ take-suc-set l at b h }
 
-pub put-then : (l m k xs ys : List ℕ) (at next end : ℕ) → Put l at xs m next → Put m next ys k end → Put l at (xs ++ ys) k end
-put-then l m k xs ys at next end p q =
+pub put-then : {l m k xs ys : List ℕ} {at next end : ℕ} → Put l at xs m next → Put m next ys k end → Put l at (xs ++ ys) k end
+put-then {l} {m} {k} {xs} {ys} {at} {next} {end} p q =
     let a : next ≡ at + length xs = p .next-is in
     let b : end ≡ next + length ys = q .next-is in
     let long : length (xs ++ ys) ≡ length xs + length ys = length-append xs ys in
@@ -30,7 +30,7 @@ put-then l m k xs ys at next end p q =
 
 -- one more character
 pub put-last : (l m xs : List ℕ) (at next b : ℕ) → Put l at xs m next → next < length m → Put l at (xs ++ (b ∷ [])) (set m next b) (next + 1)
-put-last l m xs at next b p h = put-then l m (set m next b) xs (b ∷ []) at next (next + 1) p (put-one m next b h)
+put-last l m xs at next b p h = put-then p (put-one m next b h)
 
 -- a text that fits the buffer, and one that does not
 pub printed-text : (t before after : List ℕ) (n : ℕ) → length t ≡ n → n ≤ length before → after ≡ t ++ drop n before

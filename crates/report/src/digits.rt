@@ -40,7 +40,8 @@ fn put_digit(text: &mut [u8], at: usize, value: u32) -> usize
     at + 1
 }
 
-// Eight hexadecimal digits, the highest first; a digit for each sixteenth part, with no call that a small run would wait for.
+// Eight hexadecimal digits, the highest first, each the last one of a sixteenth part. One after another, with no function
+// that calls itself: much of a small run is printing.
 pub(crate) fn put_hexadecimal(text: &mut [u8], at: usize, value: u32) -> usize
     requires { ⌜ at + 8 ≤ length (now text) ⌝ }
     ensures { λ r. ⌜ Put (now (text .entry)) at (hexDigits 8 value) (now (text .exit)) r ⌝ }

@@ -1,9 +1,6 @@
 -- Eight digits one after another, each of the sixteenth part of what the following one is of.
-use mathlib.Core.List.{List, _++_}
-use Prim.Native.Nat.{ℕ}
 use borrow.Author.Needs.{needs}
 use Rattle.report.specs.Text.{hexDigits}
-use Rattle.report.specs.Put.{Put}
 use Rattle.report.proofs.Putting.{put-then}
 use Rattle.report.proofs.digits.put_hexadecimal.Statement.{statement}
 use Rattle.report.proofs.digits.put_hexadecimal.Tie as tie
@@ -35,9 +32,6 @@ put-digit-requires-8 c κs = search needs
 same-length : tie.Need-same-length
 same-length c = search needs
 
-then : {l m k xs ys : List ℕ} {at next end : ℕ} → Put l at xs m next → Put m next ys k end → Put l at (xs ++ ys) k end
-then {l} {m} {k} {xs} {ys} {at} {next} {end} p q = put-then l m k xs ys at next end p q
-
 returns : tie.Need-returns
 unfolding hexDigits
 returns c =
@@ -49,7 +43,7 @@ returns c =
     let third = fourth .before .before .before .before in
     let second = third .before .before .before .before in
     let first = second .before .before .before .before in
-    then (then (then (then (then (then (then (first .put-digit .ensures) (second .put-digit2 .ensures)) (third .put-digit3 .ensures)) (fourth .put-digit4 .ensures)) (fifth .put-digit5 .ensures)) (sixth .put-digit6 .ensures)) (seventh .put-digit7 .ensures)) (eighth .put-digit8 .ensures)
+    put-then (put-then (put-then (put-then (put-then (put-then (put-then (first .put-digit .ensures) (second .put-digit2 .ensures)) (third .put-digit3 .ensures)) (fourth .put-digit4 .ensures)) (fifth .put-digit5 .ensures)) (sixth .put-digit6 .ensures)) (seventh .put-digit7 .ensures)) (eighth .put-digit8 .ensures)
 
 pub put-hexadecimal-spec : {M : Type 1} → statement M
 put-hexadecimal-spec =

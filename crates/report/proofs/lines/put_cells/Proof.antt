@@ -79,7 +79,7 @@ loop-again c =
       omega arith,
       omega arith,
       subst (λ (xs : List ℕ). Put text from xs after (call .result + 1)) (next-cell cells (here .i) (omega arith))
-          (put-then text (here .text) after (cellLines (take (here .i) cells)) (digits ++ (0x0A ∷ [])) from (here .at) (call .result + 1) (here .inv .2)
+          (put-then (here .inv .2)
           (put-last (here .text) (call .last .0) digits (here .at) (call .result) 0x0A (call .ensures) (omega arith))),
       length-set (call .last .0) (call .result) 0x0A ∙ kept ∙ here .inv .3,
     )

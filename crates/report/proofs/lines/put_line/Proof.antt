@@ -48,7 +48,7 @@ loop-again c =
       omega arith,
       omega arith,
       subst (λ (xs : List ℕ). Put text 0 xs (call .last .0) (call .result)) (next-field numbers (here .i) (omega arith))
-          (put-then text (here .text) (call .last .0) (fields (take (here .i) numbers)) (field (getD numbers (here .i) 0) 0x20) 0 (here .at) (call .result)
+          (put-then
           (here .inv .2) (call .ensures .1)),
       call .kept .0 ∙ here .inv .3,
     )
@@ -73,7 +73,7 @@ returns c =
       omega arith,
       subst (λ (xs : List ℕ). Put text 0 xs (call .last .0) (call .result))
           (ap (λ (i : ℕ). fields (take i numbers) ++ field (getD numbers 7 0) 0x0A) seven ∙ last-field numbers 7 (omega arith))
-          (put-then text (here .text) (call .last .0) (fields (take (here .i) numbers)) (field (getD numbers 7 0) 0x0A) 0 (here .at) (call .result)
+          (put-then
           (here .inv .2) (call .ensures .1)),
     )
 
