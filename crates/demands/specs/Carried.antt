@@ -7,7 +7,7 @@ use Prim.Native.Nat.{ℕ, _+_, _-_, _%_, _^_, _<_, _≤_}
 use native.Mathlib.Omega.{arith}
 use borrow.Author.Tests.{lt-ltb, le-ltb, lt-leb}
 use lib.Dec.{ltb}
-use Rattle.links.specs.Choice.{pick}
+use Rattle.plain.specs.Choice.{pick}
 use Rattle.links.specs.Actions.{catch}
 use Rattle.machine.specs.Codes.{entryAt, table, CATCH}
 use Rattle.machine.specs.Memory.{byteAt}
@@ -15,7 +15,7 @@ use Rattle.machine.specs.Fetch.{Instruction, instructionAt, operandAt}
 use Rattle.machine.specs.Rows.{rowOf, jump, top}
 use Rattle.machine.specs.Checks.{Test, tests}
 use Rattle.machine.specs.Step.{Stepped, done, put, costOf, unless, carried, stepOf}
-use Rattle.machine.specs.Passed.{AllPass, rowAt}
+use Rattle.machine.specs.Laws.Passed.{AllPass, rowAt}
 use Rattle.machine.specs.declared.Machine.{Machine}
 use Rattle.demands.specs.History.{World, codeAt}
 use Rattle.demands.specs.Lowest.{Applies}

@@ -5,11 +5,11 @@ use mathlib.Core.List.{List, [], _∷_, _++_}
 use Prim.Native.Nat.{ℕ, _-_}
 use lib.Dec.{T, leb, eqb, leb→le, eqb→eq, lit≤}
 use lib.ListN.{length, replicate}
-use Rattle.links.specs.Choice.{both}
-use Rattle.links.specs.Occurs.{fresh-shaped, fresh-sound}
+use Rattle.plain.specs.Choice.{both}
+use Rattle.links.specs.Laws.Occurs.{fresh-shaped, fresh-sound}
 use Rattle.machine.specs.State.{freshMachine}
-use Rattle.machine.specs.Tables.{both-parts}
-use Rattle.machine.specs.Kept.{Whole, Formed, Good, formed-true, step-kept}
+use Rattle.machine.specs.Laws.Tables.{both-parts}
+use Rattle.machine.specs.Laws.Kept.{Whole, Formed, Good, formed-true, step-kept}
 use Rattle.demands.specs.History.{World, world, codeAt, levels}
 use Rattle.demands.specs.Back.{Back}
 use Rattle.demands.specs.Three.{three}

@@ -8,8 +8,8 @@ use lib.Dec.{T, leb, eqb, leb→le, eqb→eq}
 use lib.ListN.{length}
 use Rattle.machine.specs.State.{wellFormed}
 use Rattle.machine.specs.Run.{runOf, acceptable}
-use Rattle.machine.specs.Tables.{both-parts}
-use Rattle.machine.specs.Kept.{Whole, Formed, formed, formed-true, Good, step-kept}
+use Rattle.machine.specs.Laws.Tables.{both-parts}
+use Rattle.machine.specs.Laws.Kept.{Whole, Formed, formed, formed-true, Good, step-kept}
 use Rattle.machine.specs.declared.Machine.{Machine}
 use Rattle.demands.specs.History.{World, History, here, then, step, turn, Unbroken}
 use Rattle.demands.specs.One.{one}

@@ -6,7 +6,7 @@ use native.Mathlib.Omega.{arith}
 use lib.ListN.{length}
 use Rattle.image.specs.Format.{Image, Allowed, spelled, mostMemory}
 use Rattle.image.specs.Loading.{Read, wrong-memory, not-spelled, read, loadedFrom, refusedWith, padded}
-use Rattle.image.specs.Only.{only-image}
+use Rattle.image.specs.Laws.Only.{only-image}
 use Rattle.image.specs.declared.Loaded.{Loaded}
 use Rattle.image.specs.declared.Verdict.the-variants.{Good, Refused}
 

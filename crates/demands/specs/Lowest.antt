@@ -6,11 +6,11 @@ use mathlib.Core.List.{List, [], _∷_}
 use Prim.Native.Nat.{ℕ, suc, _≤_}
 use native.Mathlib.Omega.{arith}
 use lib.Dec.{T, leb, leb→le}
-use Rattle.links.specs.Choice.{pick, both}
+use Rattle.plain.specs.Choice.{pick, both}
 use Rattle.machine.specs.Checks.{Test}
 use Rattle.machine.specs.Step.{refused, done, unless}
-use Rattle.machine.specs.Passed.{AllPass}
-use Rattle.machine.specs.Tables.{every, both-parts}
+use Rattle.machine.specs.Laws.Passed.{AllPass}
+use Rattle.machine.specs.Laws.Tables.{every, both-parts}
 use Rattle.machine.specs.declared.Machine.{Machine}
 
 -- a test of the list has this number and holds

@@ -6,9 +6,9 @@ use Prim.Native.Nat.{ℕ, _≤_}
 use native.Mathlib.Omega.{arith}
 use borrow.Author.Tests.{eqb-true}
 use lib.Dec.{T, leb, eqb, leb→le}
-use Rattle.links.specs.Choice.{pick, both}
+use Rattle.plain.specs.Choice.{pick, both}
 use Rattle.machine.specs.Run.{After, ended, runFrom, runOf, acceptable}
-use Rattle.machine.specs.Tables.{both-parts}
+use Rattle.machine.specs.Laws.Tables.{both-parts}
 use Rattle.machine.specs.declared.Machine.{Machine}
 use Rattle.demands.specs.History.{world, stepsIn}
 use Rattle.demands.specs.Runs.{Course, Reason, spent, stopped, course}

@@ -4,11 +4,11 @@ use mathlib.Core.Bool.{Bool, true}
 use mathlib.Core.List.{List}
 use Prim.Native.Nat.{ℕ}
 use lib.Dec.{T, leb, eqb}
-use Rattle.links.specs.Choice.{pick, both}
+use Rattle.plain.specs.Choice.{pick, both}
 use Rattle.machine.specs.Fetch.{instructionAt}
 use Rattle.machine.specs.Checks.{Test, tests}
 use Rattle.machine.specs.Step.{refused, stepOf, carried, put, costOf}
-use Rattle.machine.specs.Passed.{rowAt}
+use Rattle.machine.specs.Laws.Passed.{rowAt}
 use Rattle.machine.specs.declared.Machine.{Machine}
 use Rattle.demands.specs.Lowest.{Lowest, first-lowest, applies-listed}
 

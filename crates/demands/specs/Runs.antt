@@ -5,7 +5,7 @@ use Prim.Native.Nat.{ℕ, zero, suc, _+_, _<_}
 use native.Mathlib.Omega.{arith}
 use Rattle.machine.specs.Step.{Stepped, refused, done, stepOf}
 use Rattle.machine.specs.Run.{After, ended, runFrom}
-use Rattle.machine.specs.Passed.{step-done}
+use Rattle.machine.specs.Laws.Passed.{step-done}
 use Rattle.machine.specs.declared.Machine.{Machine}
 use Rattle.demands.specs.History.{World, world, left, History, here, then, step, stepsIn, cyclesIn, Unbroken}
 

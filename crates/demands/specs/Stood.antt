@@ -10,17 +10,17 @@ use lib.Seq.{sets, getD-set-same}
 use Rattle.links.specs.Actions.{Act, still, push, call, catch, exit, pop, throw, keep, reset, act, thrownP}
 use Rattle.links.specs.Allowed.{Allowed}
 use Rattle.links.specs.Restored.{Restored, Stands, Ended, Loses, by-exit as links-exit, by-pop as links-pop, by-throw as links-throw, NotReset, Throws}
-use Rattle.links.specs.Standing.{caught, next}
+use Rattle.links.specs.Laws.Standing.{caught, next}
 use Rattle.links.specs.declared.Links.{Links}
 use Rattle.machine.specs.Codes.{entryAt, table, CATCH}
 use Rattle.machine.specs.Fetch.{instructionAt}
 use Rattle.machine.specs.Rows.{Row, rowOf, top}
 use Rattle.machine.specs.Step.{done, stepOf, put}
-use Rattle.machine.specs.Passed.{step-done, rowAt}
-use Rattle.machine.specs.Marks.{mark, marked}
-use Rattle.machine.specs.Told.{Tells, Throwing}
-use Rattle.machine.specs.Kept.{Whole, Formed, Good, step-kept, fair-at}
-use Rattle.machine.specs.Acts.{step-acts}
+use Rattle.machine.specs.Laws.Passed.{step-done, rowAt}
+use Rattle.machine.specs.Laws.Marks.{mark, marked}
+use Rattle.machine.specs.Laws.Told.{Tells, Throwing}
+use Rattle.machine.specs.Laws.Kept.{Whole, Formed, Good, step-kept, fair-at}
+use Rattle.machine.specs.Laws.Acts.{step-acts}
 use Rattle.machine.specs.declared.Machine.{Machine}
 use Rattle.demands.specs.History.{World, codeAt, Moment, step, turn, Ordinary}
 use Rattle.demands.specs.Back.{Way, by-exit, by-throw, by-pop, Back, frame-in-view, level-in-view}

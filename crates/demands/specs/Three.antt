@@ -8,7 +8,7 @@ use native.Mathlib.Omega.{arith}
 use Rattle.machine.specs.State.{wellFormed}
 use Rattle.machine.specs.Step.{done, stepOf}
 use Rattle.machine.specs.Run.{runFrom}
-use Rattle.machine.specs.Kept.{Whole, formed}
+use Rattle.machine.specs.Laws.Kept.{Whole, formed}
 use Rattle.demands.specs.History.{World, left, codeAt, levels, Moment, Ordinary, History, here, then, joined, NoReset, Above}
 use Rattle.demands.specs.Back.{Back}
 use Rattle.demands.specs.Stood.{Stood, catch-stood, moment-next}

@@ -11,10 +11,10 @@ use Rattle.machine.specs.Rows.{top}
 use Rattle.machine.specs.Checks.{Test}
 use Rattle.machine.specs.Step.{Stepped, refused, done, put, costOf, stepOf}
 use Rattle.machine.specs.Run.{After, ended, runFrom, runOf, acceptable}
-use Rattle.machine.specs.Passed.{step-done, rowAt}
-use Rattle.machine.specs.Costs.{Counted, counted, cycle-at, cycle-branch}
-use Rattle.machine.specs.Prices.{by-code, zero-thrown}
-use Rattle.machine.specs.Kept.{Whole, step-kept}
+use Rattle.machine.specs.Laws.Passed.{step-done, rowAt}
+use Rattle.machine.specs.Laws.Costs.{Counted, counted, cycle-at, cycle-branch}
+use Rattle.machine.specs.Laws.Prices.{by-code, zero-thrown}
+use Rattle.machine.specs.Laws.Kept.{Whole, step-kept}
 use Rattle.machine.specs.declared.Machine.{Machine}
 use Rattle.demands.specs.History.{World, world, codeAt, costAt}
 use Rattle.demands.specs.Runs.{Course, course}

@@ -4,11 +4,11 @@ use mathlib.Core.List.{List}
 use mathlib.Core.Bool.{Bool, true, false}
 use Prim.Native.Nat.{ℕ, zero, suc}
 use lib.Dec.{T, ltb, eqb, ltb→lt}
-use Rattle.links.specs.Choice.{both}
+use Rattle.plain.specs.Choice.{both}
 use Rattle.machine.specs.Checks.{not}
 use Rattle.machine.specs.Step.{Stepped, refused, done, stepOf}
 use Rattle.machine.specs.Run.{runFrom, runOf, acceptable}
-use Rattle.machine.specs.Tables.{both-parts}
+use Rattle.machine.specs.Laws.Tables.{both-parts}
 use Rattle.demands.specs.History.{World, world, left, codeAt, levels, Moment, step, turn, Ordinary, History, here, then, NoReset, Above}
 use Rattle.demands.specs.Two.{starts, spends, goes-on}
 

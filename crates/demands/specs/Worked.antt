@@ -6,7 +6,7 @@ use lib.Dec.{T, leb, eqb, leb→le, eqb→eq}
 use Rattle.machine.specs.State.{freshMachine}
 use Rattle.machine.specs.Rows.{top}
 use Rattle.machine.specs.Run.{runOf, acceptable}
-use Rattle.machine.specs.Kept.{formed-true}
+use Rattle.machine.specs.Laws.Kept.{formed-true}
 use Rattle.demands.specs.History.{World, world, left, codeAt, levels}
 use Rattle.demands.specs.Back.{Back}
 use Rattle.demands.specs.Three.{three}

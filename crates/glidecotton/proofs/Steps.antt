@@ -6,7 +6,7 @@ use borrow.Author.Tests.{eq-eqb, ne-eqb}
 use Rattle.machine.specs.Run.{After, runOf}
 use Rattle.machine.specs.declared.Ran.{Ran}
 use Rattle.image.specs.Loading.{Read}
-use Rattle.image.specs.Only.{Answer}
+use Rattle.image.specs.Laws.Only.{Answer}
 use Rattle.image.specs.declared.Loaded.{Loaded}
 use Rattle.image.specs.declared.Verdict.{Verdict}
 use Rattle.image.specs.declared.Verdict.the-variants.{Good, Refused}

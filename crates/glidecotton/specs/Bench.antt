@@ -3,10 +3,10 @@ use mathlib.Core.List.{List}
 use mathlib.Core.Path.{_≡_}
 use Prim.Native.Nat.{ℕ}
 use lib.Dec.{eqb}
-use Rattle.links.specs.Choice.{pick}
+use Rattle.plain.specs.Choice.{pick}
 use Rattle.machine.specs.Run.{After, runOf}
 use Rattle.image.specs.Loading.{Read}
-use Rattle.image.specs.Only.{Answer}
+use Rattle.image.specs.Laws.Only.{Answer}
 use Rattle.image.specs.declared.Verdict.{Verdict}
 use Rattle.image.specs.declared.Verdict.the-variants.{Good, Refused}
 use Rattle.report.specs.Printing.{Reported, reportOf, refusalOf, untouched}

@@ -1,4 +1,3 @@
 pub mod Bench
 pub mod Host
-pub mod Apart
-pub mod Only
+pub mod Laws

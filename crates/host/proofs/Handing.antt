@@ -7,13 +7,13 @@ use lib.ListN.{length}
 use Rattle.machine.specs.Run.{After, runOf}
 use Rattle.machine.specs.declared.Machine.{Machine}
 use Rattle.state.specs.Layout.{stateBytes, stateSize, numbersOf, resultSize}
-use Rattle.state.specs.Only.{filled-whole}
+use Rattle.state.specs.Laws.Only.{filled-whole}
 use Rattle.state.specs.Promise.{Takes, wrong-length, spelled, refusedWith, Given, givenOf, countsOf}
 use Rattle.state.specs.declared.Taken.{Taken}
 use Rattle.state.specs.declared.Verdict.the-variants.{Good, Refused}
 use Rattle.host.specs.Handed.{Handed, Hands, handedBack}
 use Rattle.host.specs.Handed as handed
-use Rattle.host.specs.Budget.{narrowedTo, same-run}
+use Rattle.host.specs.Laws.Budget.{narrowedTo, same-run}
 
 module _ (state memory : List ℕ) (budget : ℕ) (result : List ℕ) where
   abbrev nothing-touched : Handed

@@ -1,3 +1,2 @@
 pub mod Handed
-pub mod Budget
-pub mod Only
+pub mod Laws

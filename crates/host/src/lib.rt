@@ -2,7 +2,7 @@
 // two exported functions has the run compiled into it.
 ghost use mathlib.Core.Path.{_≡_};
 ghost use Rattle.host.specs.Handed.{Hands};
-ghost use Rattle.host.specs.Budget.{narrowedTo};
+ghost use Rattle.host.specs.Laws.Budget.{narrowedTo};
 
 // A budget that 32 bits do not hold stays one that is refused.
 fn narrowed(budget: u64) -> u32

@@ -8,8 +8,8 @@ use Rattle.links.specs.declared.Links.{Links}
 use Rattle.image.specs.Format.{mostMemory}
 use Rattle.image.specs.Loading.{Read, read, padded, machineWith, loadedFrom}
 use Rattle.image.specs.Judging.{cellsAt, judgedOf, imageIn}
-use Rattle.image.specs.Numbers.{Bytes, length-cells}
-use Rattle.image.specs.Sound.{good-file, budget-good, image-allowed, image-spells}
+use Rattle.image.specs.Laws.Numbers.{Bytes, length-cells}
+use Rattle.image.specs.Laws.Sound.{good-file, budget-good, image-allowed, image-spells}
 use Rattle.image.specs.declared.Judged.the-variants as judged
 use Rattle.image.specs.declared.Loaded.{Loaded}
 use Rattle.image.specs.declared.Verdict.the-variants as verdict

@@ -8,7 +8,7 @@ use lib.ListN.{length, take, drop, getD, set, replicate, length-append, length-r
 use lib.Seq.{drop-cons, set-at, take-at, append-snoc, length-take-le}
 use Rattle.image.specs.Judging.{cellAt, cellsAt}
 use Rattle.image.specs.Loading.{padded}
-use Rattle.image.specs.Numbers.{length-cells}
+use Rattle.image.specs.Laws.Numbers.{length-cells}
 
 one-zero-more : (j : ℕ) (ys : List ℕ) → replicate j 0 ++ 0 ∷ ys ≡ replicate (j + 1) 0 ++ ys
 one-zero-more j ys =

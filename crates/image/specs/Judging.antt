@@ -4,7 +4,7 @@ use mathlib.Core.Option.{Option, none, some}
 use Prim.Native.Nat.{ℕ, zero, suc, _+_, _*_}
 use lib.Dec.{leb, ltb, eqb}
 use lib.ListN.{length, take, drop}
-use Rattle.links.specs.Choice.{pick}
+use Rattle.plain.specs.Choice.{pick}
 use Rattle.machine.specs.Memory.{numberAt}
 use Rattle.machine.specs.declared.Width.the-variants.{Long}
 use Rattle.image.specs.Format.{Image, mostMemory, mostCells, mostBudget, defaultBudget}

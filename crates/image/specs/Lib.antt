@@ -1,9 +1,4 @@
 pub mod Format
 pub mod Loading
 pub mod Judging
-pub mod Numbers
-pub mod Sound
-pub mod Complete
-pub mod Only
-pub mod Computed
-pub mod Sample
+pub mod Laws

@@ -7,7 +7,7 @@ use lib.ListN.{getD, take}
 use lib.Seq.{getD-take}
 use Rattle.links.specs.Actions.{Act, still, push, call, catch, exit, pop, throw, keep, reset, act, thrownP}
 use Rattle.links.specs.Linked.{frameAt, levelAt, noFrame, noLevel, copyOfR, copyOfS, copyOfP}
-use Rattle.links.specs.Sound.{Shaped, Sound}
+use Rattle.links.specs.Laws.Sound.{Shaped, Sound}
 use Rattle.links.specs.declared.Links.{Links}
 
 -- the links l are the links o again: R, S and E, and all that lies below them; the levels in view, S and E, included

@@ -4,7 +4,7 @@ use mathlib.Core.List.{List, [], _∷_}
 use Prim.Native.Nat.{ℕ, _+_}
 use lib.Dec.{ltb, leb, eqb}
 use lib.ListN.{length}
-use Rattle.links.specs.Choice.{both}
+use Rattle.plain.specs.Choice.{both}
 use Rattle.links.specs.Actions.{Act, still, push, call, catch, exit, pop, throw, keep, reset}
 use Rattle.machine.specs.Codes.{known, entryAt}
 use Rattle.machine.specs.Fetch.{Instruction}

@@ -4,7 +4,7 @@ use mathlib.Core.List.{List, [], _∷_, map}
 use Prim.Native.Nat.{ℕ}
 use lib.Dec.{ltb}
 use lib.ListN.{getD}
-use Rattle.links.specs.Choice.{pick}
+use Rattle.plain.specs.Choice.{pick}
 use Rattle.word.specs.declared.OneCell.{OneCell}
 use Rattle.word.specs.declared.OneCell.the-variants.{Negate, Increment, Decrement, Halve, ZeroEqual, ZeroUnequal, ZeroLess, ZeroGreater, Invert, ShiftLeft, ShiftRight, ExtendByte, ExtendWord}
 use Rattle.word.specs.declared.TwoCells.{TwoCells}

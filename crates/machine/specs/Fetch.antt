@@ -3,7 +3,7 @@ use mathlib.Core.Bool.{Bool, true, false}
 use mathlib.Core.List.{List}
 use Prim.Native.Nat.{ℕ, _+_, _-_, _*_, _/_, _%_, _^_}
 use lib.Dec.{ltb, leb}
-use Rattle.links.specs.Choice.{pick}
+use Rattle.plain.specs.Choice.{pick}
 use Rattle.machine.specs.Codes.{Op, NOP, DROP, DUP, SWAP, OVER, NIP, ROT, >R, R-AT, R>, PSP-AT, CATCH, RESETSP, THROW, ZERO, DUP-NONZERO, JMP, JSL, JSR, EXIT, BEQ, BRA, UNKNOWN, ONE, TWO, FETCH, STORE, LITERAL, Entry, entryAt}
 use Rattle.machine.specs.Memory.{byteAt, numberAt}
 use Rattle.machine.specs.declared.Width.the-variants.{Word}

@@ -7,14 +7,4 @@ pub mod Checks
 pub mod Step
 pub mod Run
 pub mod Sheet
-pub mod Tables
-pub mod Passed
-pub mod Costs
-pub mod Flags
-pub mod Marks
-pub mod Told
-pub mod Granted
-pub mod Kept
-pub mod Acts
-pub mod Prices
-pub mod Readings
+pub mod Laws

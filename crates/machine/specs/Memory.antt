@@ -4,7 +4,7 @@ use mathlib.Core.List.{List, [], _∷_}
 use Prim.Native.Nat.{ℕ, _+_, _-_, _*_, _/_, _%_, _^_}
 use lib.Dec.{leb, eqb}
 use lib.ListN.{getD}
-use Rattle.links.specs.Choice.{pick, both}
+use Rattle.plain.specs.Choice.{pick, both}
 use Rattle.machine.specs.declared.Width.{Width}
 use Rattle.machine.specs.declared.Width.the-variants.{Byte, Word, Long}
 use Rattle.machine.specs.declared.Place.{Place}

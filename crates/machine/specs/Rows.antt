@@ -4,7 +4,7 @@ use Prim.Native.Nat.{ℕ, _-_}
 use lib.Dec.{eqb}
 use lib.ListN.{getD, set}
 use lib.Seq.{sets}
-use Rattle.links.specs.Choice.{pick}
+use Rattle.plain.specs.Choice.{pick}
 use Rattle.links.specs.Linked.{frameAt, levelAt, copyOfP}
 use Rattle.links.specs.Actions.{Act, still, push, call, catch, exit, pop, throw, keep, reset}
 use Rattle.word.specs.Dispatch.{oneCellOf, twoCellsOf}

@@ -4,7 +4,7 @@ use mathlib.Core.List.{List}
 use Prim.Native.Nat.{ℕ, zero, suc, _+_}
 use lib.Dec.{leb, eqb}
 use lib.ListN.{length}
-use Rattle.links.specs.Choice.{both}
+use Rattle.plain.specs.Choice.{both}
 use Rattle.machine.specs.State.{wellFormed}
 use Rattle.machine.specs.Step.{Stepped, refused, done, stepOf}
 use Rattle.machine.specs.declared.Machine.{Machine}

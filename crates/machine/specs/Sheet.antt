@@ -5,7 +5,7 @@ use Prim.Native.Nat.{ℕ, _-_}
 use lib.Dec.{T, eqb}
 use lib.ListN.{length, replicate, take}
 use lib.Seq.{sets}
-use Rattle.links.specs.Choice.{both}
+use Rattle.plain.specs.Choice.{both}
 use Rattle.machine.specs.State.{freshMachine, wellFormed}
 use Rattle.machine.specs.Run.{After, runOf}
 use Rattle.machine.specs.declared.Machine.{Machine}

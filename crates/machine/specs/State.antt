@@ -2,7 +2,7 @@
 use mathlib.Core.Bool.{Bool}
 use lib.Dec.{leb}
 use lib.ListN.{replicate}
-use Rattle.links.specs.Choice.{both}
+use Rattle.plain.specs.Choice.{both}
 use Rattle.links.specs.Linked.{linked}
 use Rattle.links.specs.Fresh.{freshLinks}
 use Rattle.machine.specs.declared.Machine.{Machine}

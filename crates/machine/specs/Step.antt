@@ -4,7 +4,7 @@ use Prim.Native.Nat.{ℕ, _+_}
 use lib.Dec.{eqb}
 use lib.ListN.{length}
 use lib.Seq.{sets}
-use Rattle.links.specs.Choice.{pick, both}
+use Rattle.plain.specs.Choice.{pick, both}
 use Rattle.links.specs.Actions.{act}
 use Rattle.machine.specs.Codes.{entryAt, cyclesOf}
 use Rattle.machine.specs.Fetch.{Instruction, instructionAt}

@@ -3,7 +3,7 @@ use mathlib.Core.List.{List, _++_}
 use Prim.Native.Nat.{ℕ}
 use lib.Dec.{leb}
 use lib.ListN.{length, drop}
-use Rattle.links.specs.Choice.{pick}
+use Rattle.plain.specs.Choice.{pick}
 use Rattle.machine.specs.declared.Ran.{Ran}
 use Rattle.report.specs.Text.{textOf, refusalText}
 use Rattle.report.specs.declared.Printed.{Printed}

@@ -7,7 +7,7 @@ use native.Mathlib.Omega.{arith}
 use borrow.Author.Tests.{ltb-false, leb-true, leb-false, eqb-false}
 use lib.Dec.{ltb, leb, eqb}
 use lib.ListN.{getD}
-use Rattle.links.specs.Choice.{pick, both}
+use Rattle.plain.specs.Choice.{pick, both}
 use Rattle.machine.specs.Memory.{size, isLong, stands, placeOf}
 use Rattle.machine.specs.declared.Width.{Width}
 use Rattle.machine.specs.declared.Place.{Place}

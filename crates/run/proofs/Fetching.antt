@@ -6,7 +6,7 @@ use Prim.Native.Nat.{ℕ, _+_, _≤_, _<_, _%_, _^_}
 use native.Mathlib.Omega.{arith}
 use borrow.Author.Tests.{lt-ltb, le-ltb}
 use lib.Dec.{ltb}
-use Rattle.links.specs.Choice.{pick}
+use Rattle.plain.specs.Choice.{pick}
 use Rattle.machine.specs.Codes.{Op, entry, entryAt, BEQ, BRA}
 use Rattle.machine.specs.Fetch.{instructionAt, operandAt, targetAt}
 use Rattle.machine.specs.Memory.{byteAt}

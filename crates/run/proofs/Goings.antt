@@ -7,7 +7,7 @@ use native.Mathlib.Omega.{arith}
 use lib.Dec.{eqb}
 use lib.ListN.{getD, set}
 use lib.Seq.{set-getD}
-use Rattle.links.specs.Choice.{pick}
+use Rattle.plain.specs.Choice.{pick}
 use Rattle.machine.specs.Rows.{rowOf}
 use Rattle.machine.specs.Codes.{DUP-NONZERO, JMP, BEQ, BRA}
 use Rattle.run.specs.Promises.{Meets, pushed, pushedCells}

@@ -8,7 +8,7 @@ use native.Mathlib.Numerals.{add-one}
 use borrow.Author.Tests.{lt-ltb, le-ltb, ltb-true, eq-eqb, ne-eqb, eqb-true, eqb-false}
 use lib.Dec.{ltb, leb, eqb, leb·suc-suc}
 use lib.ListN.{getD, set}
-use Rattle.links.specs.Choice.{pick, both}
+use Rattle.plain.specs.Choice.{pick, both}
 use Rattle.links.specs.Actions.{noLocals, calledFrame, caughtLevel}
 use Rattle.links.specs.Linked.{frameAt, levelAt, copyOfR, copyOfS}
 use Rattle.links.specs.declared.Frame.{Frame}

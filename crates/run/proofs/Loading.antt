@@ -8,7 +8,7 @@ use borrow.Author.Tests.{le-ltb, ltb-false}
 use lib.Dec.{ltb}
 use lib.ListN.{getD, set}
 use lib.Seq.{set-getD}
-use Rattle.links.specs.Choice.{pick}
+use Rattle.plain.specs.Choice.{pick}
 use Rattle.links.specs.Linked.{noFrame, noLevel}
 use Rattle.links.specs.declared.Frame.{Frame}
 use Rattle.links.specs.declared.Level.{Level}

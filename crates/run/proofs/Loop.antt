@@ -6,15 +6,15 @@ use Prim.Native.Nat.{ℕ, zero, suc, _+_, _-_, _*_, _≤_, _<_}
 use native.Mathlib.Omega.{arith}
 use lib.Dec.{leb, eqb, T, leb→le, eqb→eq}
 use lib.ListN.{length, length-map}
-use Rattle.links.specs.Choice.{both}
+use Rattle.plain.specs.Choice.{both}
 use Rattle.machine.specs.State.{wellFormed}
 use Rattle.machine.specs.Fetch.{instructionAt}
 use Rattle.machine.specs.Step.{Stepped, refused, done, stepOf, costOf}
 use Rattle.machine.specs.Run.{After, ended, runFrom, acceptable}
-use Rattle.machine.specs.Costs.{cost-bounded}
-use Rattle.machine.specs.Kept.{Whole, Formed, formed, step-kept}
-use Rattle.machine.specs.Passed.{step-done}
-use Rattle.machine.specs.Tables.{both-parts}
+use Rattle.machine.specs.Laws.Costs.{cost-bounded}
+use Rattle.machine.specs.Laws.Kept.{Whole, Formed, formed, step-kept}
+use Rattle.machine.specs.Laws.Passed.{step-done}
+use Rattle.machine.specs.Laws.Tables.{both-parts}
 use Rattle.machine.specs.declared.Machine.{Machine}
 
 -- an array of structs has as many elements as the list of their values

@@ -8,7 +8,7 @@ use borrow.Author.Tests.{lt-ltb, le-ltb, ltb-true, ltb-false}
 use lib.Dec.{ltb}
 use lib.ListN.{length, set}
 use lib.Seq.{sets}
-use Rattle.links.specs.Choice.{pick}
+use Rattle.plain.specs.Choice.{pick}
 use Rattle.links.specs.Actions.{still}
 use Rattle.links.specs.declared.Links.{Links}
 use Rattle.machine.specs.Codes.{Op, known, entry, entryAt}

@@ -6,10 +6,10 @@ use Prim.Native.Nat.{ℕ, zero, suc, _<_}
 use borrow.Author.Tests.{lt-ltb, ne-eqb}
 use lib.Dec.{T, ltb, eqb, eqb→eq}
 use lib.ListN.{getD}
-use Rattle.links.specs.Choice.{pick, both}
+use Rattle.plain.specs.Choice.{pick, both}
 use Rattle.machine.specs.Codes.{Op, Entry, entry, entryAt, table, NOP, DROP, DUP, SWAP, OVER, NIP, ROT, >R, R-AT, R>, PSP-AT, CATCH, RESETSP, THROW, ZERO, DUP-NONZERO, JMP, JSL, JSR, EXIT, BEQ, BRA, UNKNOWN, ONE, TWO, FETCH, STORE, LITERAL}
 use Rattle.machine.specs.Fetch.{operandAt}
-use Rattle.machine.specs.Tables.{both-parts}
+use Rattle.machine.specs.Laws.Tables.{both-parts}
 use Rattle.run.specs.Promises.{OneByte}
 
 -- no bytes follow the code

@@ -5,7 +5,7 @@ use Prim.Native.Nat.{ℕ, _+_, _-_, _/_, _%_, _≤_, _<_}
 use native.Mathlib.Omega.{arith}
 use borrow.Author.Tests.{le-leb, lt-leb, eq-eqb, ne-eqb}
 use lib.Dec.{leb}
-use Rattle.links.specs.Choice.{pick, both}
+use Rattle.plain.specs.Choice.{pick, both}
 use Rattle.machine.specs.Memory.{stands}
 use Rattle.machine.specs.declared.Place.{Place}
 use Rattle.machine.specs.declared.Place.the-variants.{Local, Cell, Nowhere}

@@ -9,9 +9,9 @@ use native.Mathlib.Omega.{arith}
 use borrow.Author.Tests.{ne-eqb}
 use lib.Dec.{ltb}
 use lib.ListN.{getD, set}
-use Rattle.links.specs.Choice.{pick}
+use Rattle.plain.specs.Choice.{pick}
 use Rattle.links.specs.Linked.{frameAt, levelAt, copyOfR, copyOfS, copyOfP}
-use Rattle.links.specs.Sound.{Sound, Rise, Within}
+use Rattle.links.specs.Laws.Sound.{Sound, Rise, Within}
 use Rattle.links.specs.declared.Frame.{Frame}
 use Rattle.links.specs.declared.Level.{Level}
 use Rattle.links.specs.declared.Links.{Links}

@@ -8,7 +8,7 @@ use native.Mathlib.Numerals.{add-one}
 use borrow.Author.Tests.{le-ltb}
 use lib.Dec.{ltb, eqb}
 use lib.ListN.{getD}
-use Rattle.links.specs.Choice.{pick}
+use Rattle.plain.specs.Choice.{pick}
 use Rattle.links.specs.Linked.{copyOfS, copyOfP}
 use Rattle.links.specs.declared.Links.{Links}
 use Rattle.machine.specs.Codes.{entryAt, table, cyclesOf}

@@ -7,7 +7,7 @@ use native.Mathlib.Omega.{arith}
 use borrow.Author.Tests.{le-ltb, lt-ltb, ltb-true, ltb-false, eqb-true}
 use lib.Dec.{ltb, eqb}
 use lib.ListN.{length, List·getD-eq-default}
-use Rattle.links.specs.Choice.{pick, both}
+use Rattle.plain.specs.Choice.{pick, both}
 use Rattle.links.specs.Actions.{Act, still, push, call, catch, exit, pop, throw, keep, reset}
 use Rattle.links.specs.declared.Frame.{Frame}
 use Rattle.links.specs.declared.Level.{Level}
@@ -18,10 +18,10 @@ use Rattle.machine.specs.Rows.{Row}
 use Rattle.machine.specs.Checks.{needs}
 use Rattle.machine.specs.Step.{Stepped, refused, done, carried, stepOf}
 use Rattle.machine.specs.Run.{After, ended, runFrom}
-use Rattle.machine.specs.Kept.{Formed, fair-at}
-use Rattle.machine.specs.Marks.{mark, marked}
-use Rattle.machine.specs.Passed.{rowAt}
-use Rattle.machine.specs.Told.{Tells}
+use Rattle.machine.specs.Laws.Kept.{Formed, fair-at}
+use Rattle.machine.specs.Laws.Marks.{mark, marked}
+use Rattle.machine.specs.Laws.Passed.{rowAt}
+use Rattle.machine.specs.Laws.Told.{Tells}
 use Rattle.machine.specs.declared.Machine.{Machine}
 use Rattle.machine.specs.declared.Steps.{Steps}
 use Rattle.machine.specs.declared.Cycles.{Cycles}

@@ -8,7 +8,7 @@ use native.Mathlib.Omega.{arith}
 use borrow.Author.Tests.{lt-ltb, eq-eqb, ne-eqb}
 use lib.Dec.{eqb}
 use lib.ListN.{getD}
-use Rattle.links.specs.Choice.{pick}
+use Rattle.plain.specs.Choice.{pick}
 use Rattle.machine.specs.Codes.{Entry, entry, entryAt, table, UNKNOWN}
 
 -- the entries from place k on, asked one after another

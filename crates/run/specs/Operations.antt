@@ -1,7 +1,7 @@
 -- The operation on two cells that a code names, as the run asks for it.
 use Prim.Native.Nat.{ℕ}
 use lib.Dec.{eqb}
-use Rattle.links.specs.Choice.{pick}
+use Rattle.plain.specs.Choice.{pick}
 use Rattle.word.specs.declared.TwoCells.{TwoCells}
 use Rattle.word.specs.declared.TwoCells.the-variants.{Plus, Minus, AddExtended, SubtractExtended, Equal, Unequal, Less, Greater, Below, Above, AndBits, OrBits, XorBits, MultiplySigned, MultiplyUnsigned, DivideSigned, DivideUnsigned}
 

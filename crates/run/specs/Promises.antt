@@ -5,7 +5,7 @@ use mathlib.Core.List.{List}
 use Prim.Native.Nat.{ℕ, _+_, _<_}
 use lib.Dec.{ltb}
 use lib.ListN.{set}
-use Rattle.links.specs.Choice.{pick}
+use Rattle.plain.specs.Choice.{pick}
 use Rattle.links.specs.declared.Frame.{Frame}
 use Rattle.links.specs.declared.Level.{Level}
 use Rattle.links.specs.declared.Links.{Links}

@@ -4,7 +4,7 @@ use machine::Width;
 ghost use mathlib.Core.Path.{_≡_};
 ghost use Prim.Native.Nat.{_+_, _-_, _/_, _<_, _≤_, _^_};
 ghost use lib.Dec.{leb};
-ghost use Rattle.links.specs.Choice.{pick};
+ghost use Rattle.plain.specs.Choice.{pick};
 ghost use Rattle.machine.specs.Memory.{placeOf, stands};
 ghost use Rattle.machine.specs.declared.Place.the-variants.{Memory, Local, Cell, Nowhere};
 ghost use Rattle.machine.specs.declared.Width.the-variants.{Long};

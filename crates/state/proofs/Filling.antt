@@ -9,9 +9,9 @@ use lib.ListN.{length, take, drop, getD, set}
 use lib.Seq.{drop-cons, drop-drop, take-add, take-suc-set, take-all}
 use Rattle.state.specs.Layout.{cell, each}
 use Rattle.state.specs.Fitting.{All, Row, CellFits}
-use Rattle.state.specs.Numbers.{joined, cell-joined, pointer-joined}
+use Rattle.state.specs.Laws.Numbers.{joined, cell-joined, pointer-joined}
 use Rattle.state.specs.Parts.{Stands, CellAt, PointerAt}
-use Rattle.state.specs.Rows.{each-more, all-more}
+use Rattle.state.specs.Laws.Rows.{each-more, all-more}
 
 -- one part, and the next that begins where it ends
 pub followed : (s x y : List ℕ) (at n next m w : ℕ) → at + n ≡ next → n + m ≡ w

@@ -9,7 +9,7 @@ use lib.ListN.{length, take, drop, getD, set, length-append}
 use lib.Seq.{take-suc, take-at, take-all, length-take-le, sets, sets-eq, length-sets}
 use Rattle.state.specs.Layout.{each}
 use Rattle.state.specs.Parts.{Put}
-use Rattle.state.specs.Rows.{each-more}
+use Rattle.state.specs.Laws.Rows.{each-more}
 
 pub put-then : {l m k xs ys : List ℕ} {at n next w end : ℕ} → Put l at n xs m next → Put m next w ys k end → Put l at (n + w) (xs ++ ys) k end
 put-then {l} {m} {k} {xs} {ys} {at} {n} {next} {w} {end} p q =

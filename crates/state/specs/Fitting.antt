@@ -7,7 +7,7 @@ use Rattle.links.specs.declared.Frame.{Frame}
 use Rattle.links.specs.declared.Level.{Level}
 use Rattle.links.specs.declared.Links.{Links}
 use Rattle.machine.specs.declared.Machine.{Machine}
-use Rattle.machine.specs.Kept.{Whole}
+use Rattle.machine.specs.Laws.Kept.{Whole}
 
 abbrev pub All : {A : Type 0} → (A → Type 0) → List A → Type 0
 All P [] = Unit {0}

@@ -2,8 +2,4 @@ pub mod Layout
 pub mod Fitting
 pub mod Parts
 pub mod Promise
-pub mod Numbers
-pub mod Rows
-pub mod Sizes
-pub mod Spelling
-pub mod Only
+pub mod Laws

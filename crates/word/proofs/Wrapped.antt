@@ -7,7 +7,7 @@ use native.Mathlib.Omega.{arith}
 use lib.Dec.{leb, ltb}
 use lib.Bits.{bitOr}
 use borrow.Author.Tests.{le-leb, lt-leb, ltb-true, ltb-false}
-use Rattle.word.specs.Tests.{same-test}
+use Rattle.word.specs.Laws.Tests.{same-test}
 use Rattle.word.specs.Truth.{bitOf}
 
 -- one test or another, as bits, where an order follows from each and fails without both

@@ -6,9 +6,5 @@ pub mod Shifts
 pub mod Products
 pub mod Quotients
 pub mod Dispatch
-pub mod Bounds
-pub mod Fits
-pub mod Only
-mod Samples
-pub mod Tests
 pub mod Meaning
+pub mod Laws

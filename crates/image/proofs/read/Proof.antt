@@ -6,7 +6,7 @@ use borrow.Author.Needs.{needs}
 use Rattle.image.specs.Format.{mostMemory}
 use Rattle.image.specs.Loading.{Read, wrong-memory, not-spelled}
 use Rattle.image.specs.declared.Loaded.{Loaded}
-use Rattle.image.specs.Computed.{none-spells}
+use Rattle.image.specs.Laws.Computed.{none-spells}
 use Rattle.image.proofs.Answers.{inside, good-answer}
 use Rattle.image.proofs.read.Statement.{statement}
 use Rattle.image.proofs.read.Tie as tie

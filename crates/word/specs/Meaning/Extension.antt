@@ -6,7 +6,7 @@ use Prim.Native.Nat.{ℕ, _+_, _-_, _*_, _/_, _^_, _%_, _≤_, _<_}
 use native.Mathlib.Omega.{arith}
 use lib.IntN.{ℤ, pos, negℤ, _+ℤ_, _*ℤ_}
 use Rattle.word.specs.Shifts.{halveOf, extendByteOf, extendWordOf}
-use Rattle.word.specs.Tests.{either-order}
+use Rattle.word.specs.Laws.Tests.{either-order}
 use Rattle.word.specs.Meaning.Integers.{signed, signedAt, signed-low, signed-high, times, less-size}
 
 -- twice the half, and the bit that was dropped, are the whole

@@ -9,7 +9,7 @@ use lib.Dec.{ltb}
 use lib.IntN.{ℤ, pos, negsuc, negℤ, subℕ, _+ℤ_, _-ℤ_, _*ℤ_, negℤ-+ℤ, +ℤ-comm}
 use borrow.Author.Tests.{lt-ltb, le-ltb}
 use Rattle.word.specs.Quotients.{apart}
-use Rattle.word.specs.Tests.{either-order}
+use Rattle.word.specs.Laws.Tests.{either-order}
 
 -- a number of a range whose upper half stands for the negative ones: x, or x less the range
 abbrev pub signedAt : ℕ → ℕ → ℤ

@@ -10,7 +10,7 @@ use lib.Signed.{ltZ}
 use borrow.Author.Tests.{lt-ltb, le-ltb}
 use Rattle.word.specs.Truth.{truthOf}
 use Rattle.word.specs.Compare.{lifted, lessOf, greaterOf, zeroLessOf, zeroGreaterOf}
-use Rattle.word.specs.Tests.{same-test, either-order}
+use Rattle.word.specs.Laws.Tests.{same-test, either-order}
 use Rattle.word.specs.Meaning.Integers.{signed, signed-low, signed-negsuc}
 use Rattle.word.specs.declared.Outcome.the-variants.{Single}
 

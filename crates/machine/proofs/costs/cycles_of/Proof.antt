@@ -3,7 +3,7 @@ use mathlib.Core.Path.{sym}
 use borrow.Author.Needs.{needs}
 use native.Mathlib.Omega.{arith}
 use Rattle.machine.specs.Codes.{table, cycleTable}
-use Rattle.machine.specs.Costs.{cycle-at, cycle-past, cycle-branch}
+use Rattle.machine.specs.Laws.Costs.{cycle-at, cycle-past, cycle-branch}
 use Rattle.machine.proofs.costs.cycles_of.Statement.{statement}
 use Rattle.machine.proofs.costs.cycles_of.Tie as tie
 

@@ -7,7 +7,7 @@ use Prim.Native.Nat.{ℕ, _+_, _/_, _%_, _<_, _≤_}
 use borrow.Fn.Kinds.{In}
 use borrow.Fn.PlainCycle.{Measures, is, falls, and}
 use Rattle.report.specs.Text.{digit, decimal}
-use Rattle.report.specs.Digits.{decimal-small, decimal-large, decimal-some}
+use Rattle.report.specs.Laws.Digits.{decimal-small, decimal-large, decimal-some}
 use Rattle.report.specs.Put.{Put}
 use Rattle.report.proofs.Putting.{put-one, put-last}
 use Rattle.report.proofs.digits.put_decimal.Reads as put-decimal

@@ -5,7 +5,7 @@ use native.Mathlib.Omega.{arith}
 use lib.ListN.{length}
 use borrow.Author.Needs.{needs}
 use Rattle.report.specs.Text.{decimal, field}
-use Rattle.report.specs.Digits.{decimal-short}
+use Rattle.report.specs.Laws.Digits.{decimal-short}
 use Rattle.report.proofs.Putting.{put-last}
 use Rattle.report.proofs.digits.put_field.Statement.{statement}
 use Rattle.report.proofs.digits.put_field.Tie as tie

@@ -5,7 +5,7 @@ use Prim.Native.Nat.{ℕ, _+_, _*_, _-_, _≤_}
 use native.Mathlib.Omega.{arith}
 use lib.ListN.{length, take, getD, set, length-set}
 use Rattle.report.specs.Text.{hexDigits, cellLine, cellLines}
-use Rattle.report.specs.Digits.{length-hex}
+use Rattle.report.specs.Laws.Digits.{length-hex}
 use Rattle.report.specs.Put.{Put}
 use Rattle.report.proofs.Putting.{put-none, put-then, put-last}
 use Rattle.report.proofs.Growing.{next-cell}

@@ -4,7 +4,7 @@ use mathlib.Core.List.{List}
 use Prim.Native.Nat.{ℕ}
 use native.Mathlib.Omega.{arith}
 use lib.ListN.{getD}
-use Rattle.machine.specs.Costs.{cycle-at, cycle-past, cycle-branch}
+use Rattle.machine.specs.Laws.Costs.{cycle-at, cycle-past, cycle-branch}
 use borrow.Author.Needs.{needs}
 use Rattle.run.proofs.turn.cost.Statement.{statement}
 use Rattle.run.proofs.turn.cost.Tie as tie

@@ -1,6 +1,6 @@
 -- A cost of at most 42 fits on top.
 use native.Mathlib.Omega.{arith}
-use Rattle.machine.specs.Costs.{cycles-bounded}
+use Rattle.machine.specs.Laws.Costs.{cycles-bounded}
 use borrow.Author.Needs.{needs}
 use Rattle.run.proofs.turn.with_cost.Statement.{statement}
 use Rattle.run.proofs.turn.with_cost.Tie as tie

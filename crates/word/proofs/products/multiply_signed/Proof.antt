@@ -6,7 +6,7 @@ use mathlib.Core.Path.{_≡_}
 use native.Mathlib.Omega.{arith}
 use Rattle.word.proofs.Parts.{double}
 use Rattle.word.proofs.Signs.{signed-product}
-use Rattle.word.specs.Bounds.{product-below}
+use Rattle.word.specs.Laws.Bounds.{product-below}
 use Rattle.word.proofs.products.multiply_signed.Statement.{statement}
 use Rattle.word.proofs.products.multiply_signed.Tie as tie
 

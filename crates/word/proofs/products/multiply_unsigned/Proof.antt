@@ -2,7 +2,7 @@
 -- Assumes nothing.
 use borrow.Author.Needs.{needs}
 use native.Mathlib.Omega.{arith}
-use Rattle.word.specs.Bounds.{product-below}
+use Rattle.word.specs.Laws.Bounds.{product-below}
 use Rattle.word.proofs.products.multiply_unsigned.Statement.{statement}
 use Rattle.word.proofs.products.multiply_unsigned.Tie as tie
 

@@ -1,0 +1,6 @@
+pub mod Numbers
+pub mod Sound
+pub mod Complete
+pub mod Only
+pub mod Computed
+pub mod Sample

@@ -1,0 +1,11 @@
+pub mod Sound
+pub mod Rising
+pub mod Copies
+pub mod Tests
+pub mod Kept
+pub mod Dropped
+pub mod Standing
+pub mod History
+pub mod Called
+pub mod Only
+pub mod Occurs

@@ -1,0 +1,11 @@
+pub mod Tables
+pub mod Passed
+pub mod Costs
+pub mod Flags
+pub mod Marks
+pub mod Told
+pub mod Granted
+pub mod Kept
+pub mod Acts
+pub mod Prices
+pub mod Readings

@@ -1,0 +1,20 @@
+-- A step that is carried out is one action on the linked stacks, and one that they allow.
+use mathlib.Core.Path.{_≡_, ap}
+use mathlib.Core.List.{List}
+use Prim.Native.Nat.{ℕ}
+use Rattle.links.specs.Actions.{act}
+use Rattle.links.specs.Allowed.{Allowed}
+use Rattle.machine.specs.Step.{done, stepOf}
+use Rattle.machine.specs.Laws.Passed.{step-done, rowAt}
+use Rattle.machine.specs.Laws.Kept.{Formed, allowed-at}
+use Rattle.machine.specs.declared.Machine.{Machine}
+
+pub record Acted (mem : List ℕ) (m m′ : Machine) : Type 0 where
+  pub acted : m′ .links ≡ act (rowAt mem m .link) (m .links)
+  pub allowed : Allowed (rowAt mem m .link) (m .links)
+
+pub step-acts : (mem : List ℕ) (m : Machine) (mem′ : List ℕ) (m′ : Machine) (k : ℕ) → Formed m →
+    stepOf mem m ≡ done mem′ m′ k → Acted mem m m′
+step-acts mem m mem′ m′ k h e =
+    let d = step-done mem m mem′ m′ k e in
+    record { acted = ap (λ (x : Machine). x .links) (d .machine); allowed = allowed-at mem m mem′ m′ k h d }

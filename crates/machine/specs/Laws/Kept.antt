@@ -1,0 +1,92 @@
+-- Every step that is carried out keeps a well-formed state well formed, so the next run never refuses it.
+use mathlib.Core.Path.{_≡_, refl, sym, _∙_, subst, subst⁻¹}
+use mathlib.Core.Bool.{true}
+use mathlib.Core.List.{List}
+use Prim.Native.Nat.{ℕ, _+_, _≤_}
+use borrow.Author.Tests.{le-leb, ltb-false}
+use lib.Dec.{T, leb, leb→le}
+use lib.ListN.{length}
+use lib.Seq.{length-sets}
+use Rattle.links.specs.Allowed.{Allowed}
+use Rattle.links.specs.Linked.{linked}
+use Rattle.links.specs.Laws.Sound.{Shaped, Sound, sound, linked-true}
+use Rattle.links.specs.Laws.Kept.{kept, shaped-kept}
+use Rattle.machine.specs.State.{wellFormed}
+use Rattle.machine.specs.Codes.{entryAt}
+use Rattle.machine.specs.Fetch.{instructionAt}
+use Rattle.machine.specs.Step.{done, stepOf, put}
+use Rattle.machine.specs.Laws.Tables.{both-parts}
+use Rattle.machine.specs.Laws.Passed.{Done, step-done, rowAt}
+use Rattle.machine.specs.Laws.Marks.{mark}
+use Rattle.machine.specs.Laws.Told.{Fair, fair}
+use Rattle.machine.specs.Laws.Granted.{granted}
+use Rattle.machine.specs.declared.Machine.{Machine}
+
+-- the lists are as long as the arrays that they stand for
+pub record Whole (m : Machine) : Type 0 where
+  pub cells-long : length (m .cells) ≡ 64
+  pub shaped : Shaped (m .links)
+
+-- well formed, part by part
+pub record Formed (m : Machine) : Type 0 where
+  pub p-within : m .p ≤ 64
+  pub flag-within : m .flag ≤ 1
+  pub sound : Sound (m .links)
+
+pub formed : (m : Machine) → wellFormed m ≡ true → Formed m
+unfolding wellFormed
+formed m e =
+    let p = both-parts (leb (m .p) 64) _ (subst⁻¹ T e tt) in
+    let f = both-parts (leb (m .flag) 1) (linked (m .links)) (p .1) in
+    record
+    { p-within = leb→le (m .p) 64 (p .0); flag-within = leb→le (m .flag) 1 (f .0); sound = sound (m .links) (f .1) }
+
+pub formed-true : (m : Machine) → Formed m → wellFormed m ≡ true
+unfolding wellFormed
+formed-true m h = rw (le-leb (m .p) 64 (h .p-within), le-leb (m .flag) 1 (h .flag-within)) (linked-true (m .links) (h .sound))
+
+-- the row at the program counter is fair
+pub fair-at : (mem : List ℕ) (m : Machine) → Formed m →
+    Fair mem m (mark (entryAt (instructionAt mem (m .counter) .code) .op)) (rowAt mem m)
+fair-at mem m h =
+    fair (instructionAt mem (m .counter)) mem m (h .flag-within) (entryAt (instructionAt mem (m .counter) .code) .op)
+
+-- a step that is done carries out an action that the linked stacks allow
+pub allowed-at : (mem : List ℕ) (m : Machine) (mem′ : List ℕ) (m′ : Machine) (k : ℕ) → Formed m → Done mem m mem′ m′ k →
+    Allowed (rowAt mem m .link) (m .links)
+allowed-at mem m mem′ m′ k h d =
+    granted (instructionAt mem (m .counter)) m (rowAt mem m) (h .p-within) (d .passed) (rowAt mem m .link) refl
+    (fair-at mem m h .tells)
+
+-- what a step leaves: whole, well formed, and the memory as long as it was
+pub record Good (mem mem′ : List ℕ) (m′ : Machine) : Type 0 where
+  pub whole : Whole m′
+  pub formed : Formed m′
+  pub same-length : length mem′ ≡ length mem
+
+put-good : (mem : List ℕ) (m : Machine) (mem′ : List ℕ) (m′ : Machine) (k : ℕ) → Whole m → Formed m → Done mem m mem′ m′ k →
+    Good mem (rowAt mem m .memory) (put (rowAt mem m) m)
+put-good mem m mem′ m′ k w h d =
+    let row = rowAt mem m in
+    let f = fair-at mem m h in
+    record {
+      whole =
+          record {
+            cells-long = length-sets (m .cells) (row .keeps) (row .puts) ∙ w .cells-long;
+            shaped = shaped-kept (row .link) (m .links) (w .shaped);
+          };
+      formed =
+          record {
+            p-within = ltb-false 64 (row .keeps + length (row .puts)) (d .passed .1 .1 .1 .1 .1 .1 .0);
+            flag-within = f .flag-within;
+            sound = kept (row .link) (m .links) (w .shaped) (h .sound) (allowed-at mem m mem′ m′ k h d);
+          };
+      same-length = f .same-length;
+    }
+
+pub step-kept : (mem : List ℕ) (m : Machine) (mem′ : List ℕ) (m′ : Machine) (k : ℕ) → Whole m → Formed m →
+    stepOf mem m ≡ done mem′ m′ k → Good mem mem′ m′
+step-kept mem m mem′ m′ k w h e =
+    let d = step-done mem m mem′ m′ k e in
+    subst (λ (x : Machine). Good mem mem′ x) (sym (d .machine))
+    (subst (λ (x : List ℕ). Good mem x (put (rowAt mem m) m)) (sym (d .memory)) (put-good mem m mem′ m′ k w h d))

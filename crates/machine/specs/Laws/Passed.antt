@@ -1,0 +1,52 @@
+-- What a step that is carried out tells: no test held, and its row was put.
+use mathlib.Core.Path.{_≡_, refl}
+use mathlib.Core.Bool.{Bool, true, false}
+use mathlib.Core.List.{List, [], _∷_}
+use Prim.Native.Nat.{ℕ}
+use native.Mathlib.Omega.{arith}
+use Rattle.plain.specs.Choice.{pick}
+use Rattle.machine.specs.Codes.{entryAt}
+use Rattle.machine.specs.Fetch.{Instruction, instructionAt}
+use Rattle.machine.specs.Rows.{Row, rowOf}
+use Rattle.machine.specs.Checks.{Test, tests}
+use Rattle.machine.specs.Step.{Stepped, refused, done, put, costOf, unless, carry, carried, stepOf}
+use Rattle.machine.specs.declared.Machine.{Machine}
+
+-- no test of the list holds
+abbrev pub AllPass : List Test → Type 0
+AllPass [] = Unit {0}
+AllPass (t ∷ ts) = (t .holds ≡ false) × AllPass ts
+
+pub record Unrefused (ts : List Test) (result s : Stepped) : Type 0 where
+  pub passed : AllPass ts
+  pub same : result ≡ s
+
+pub unless-done : (ts : List Test) (result : Stepped) (mem : List ℕ) (m : Machine) (k : ℕ) →
+    unless ts result ≡ done mem m k → Unrefused ts result (done mem m k)
+unless-done [] result mem m k e = record { passed = tt; same = e }
+unless-done (t ∷ ts) result mem m k e = go (t .holds) refl e (unless-done ts result mem m k)
+  where
+    go : (b : Bool) → t .holds ≡ b → pick b (refused (t .number)) (unless ts result) ≡ done mem m k →
+        (unless ts result ≡ done mem m k → Unrefused ts result (done mem m k)) → Unrefused (t ∷ ts) result (done mem m k)
+    go true h e later = let z : _≡_ {A = ℕ} 0 1 = cc in absurd (omega arith)
+    go false h e later = record { passed = (h, later e .passed); same = later e .same }
+
+-- the row of the instruction at the program counter
+abbrev pub rowAt : List ℕ → Machine → Row
+rowAt mem m =
+    rowOf (instructionAt mem (m .counter)) mem m (entryAt (instructionAt mem (m .counter) .code) .op)
+
+pub record Done (mem : List ℕ) (m : Machine) (mem′ : List ℕ) (m′ : Machine) (k : ℕ) : Type 0 where
+  pub passed : AllPass (tests (instructionAt mem (m .counter)) m (rowAt mem m))
+  pub memory : mem′ ≡ rowAt mem m .memory
+  pub machine : m′ ≡ put (rowAt mem m) m
+  pub cost : k ≡ costOf (instructionAt mem (m .counter)) m
+
+pub step-done : (mem : List ℕ) (m : Machine) (mem′ : List ℕ) (m′ : Machine) (k : ℕ) →
+    stepOf mem m ≡ done mem′ m′ k → Done mem m mem′ m′ k
+unfolding stepOf carried
+step-done mem m mem′ m′ k e =
+    let i = instructionAt mem (m .counter) in
+    let u =
+    unless-done (tests i m (rowAt mem m)) (done (rowAt mem m .memory) (put (rowAt mem m) m) (costOf i m)) mem′ m′ k e in
+    record { passed = u .passed; memory = cc (u .same); machine = cc (u .same); cost = cc (u .same) }

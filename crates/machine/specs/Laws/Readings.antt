@@ -1,0 +1,60 @@
+-- Readings that document 01 rules out: where EXIT and THROW go, and what THROW leaves, in any state.
+use mathlib.Core.Path.{_≡_, ap, _∙_}
+use mathlib.Core.Bool.{Bool}
+use mathlib.Core.List.{List, []}
+use Prim.Native.Nat.{ℕ, suc, _+_}
+use native.Mathlib.Omega.{arith}
+use borrow.Author.Tests.{ne-eqb}
+use Rattle.plain.specs.Choice.{pick}
+use Rattle.links.specs.Linked.{frameAt, levelAt, copyOfR, copyOfS, copyOfP}
+use Rattle.links.specs.Actions.{throw}
+use Rattle.machine.specs.Codes.{EXIT, THROW, entryAt, table}
+use Rattle.machine.specs.Memory.{byteAt}
+use Rattle.machine.specs.Fetch.{Instruction, instructionAt}
+use Rattle.machine.specs.Rows.{Row, rowOf, top, cells, throwRow}
+use Rattle.machine.specs.Step.{done, stepOf, put}
+use Rattle.machine.specs.Laws.Passed.{step-done, rowAt}
+use Rattle.machine.specs.declared.Machine.{Machine}
+
+-- the row of a code that is known
+row-of : (mem : List ℕ) (m : Machine) (code : ℕ) → byteAt mem (m .counter) ≡ code →
+    rowAt mem m ≡ rowOf (instructionAt mem (m .counter)) mem m (entryAt code .op)
+unfolding instructionAt
+row-of mem m code is = ap (λ (c : ℕ). rowOf (instructionAt mem (m .counter)) mem m (entryAt c .op)) is
+
+-- what a step leaves, by its row
+left-by : (mem : List ℕ) (m : Machine) (mem′ : List ℕ) (m′ : Machine) (k : ℕ) (row : Row) → rowAt mem m ≡ row →
+    stepOf mem m ≡ done mem′ m′ k → m′ ≡ put row m
+left-by mem m mem′ m′ k row is e = step-done mem m mem′ m′ k e .machine ∙ ap (λ (r : Row). put r m) is
+
+-- EXIT goes to the address in its subroutine level, whatever the return stack holds
+pub exit-goes : (mem : List ℕ) (m : Machine) (mem′ : List ℕ) (m′ : Machine) (k : ℕ) → stepOf mem m ≡ done mem′ m′ k →
+    byteAt mem (m .counter) ≡ 0x3D → m′ .counter ≡ frameAt (m .links) (m .links .s) .address
+unfolding entryAt table rowOf
+exit-goes mem m mem′ m′ k e is =
+    ap (λ (x : Machine). x .counter) (left-by mem m mem′ m′ k _ (row-of mem m 0x3D is) e)
+
+-- a THROW that is thrown: on at the throw address, S and R by the copies (R from the level above S), P by its copy and one for the code
+pub record Thrown (m m′ : Machine) : Type 0 where
+  pub goes : m′ .counter ≡ levelAt (m .links) (m .links .e) .address
+  pub s-copied : m′ .links .s ≡ copyOfS (m .links .levels) (m .links .e)
+  pub r-copied : m′ .links .r ≡ copyOfR (m .links .frames) (suc (copyOfS (m .links .levels) (m .links .e)))
+  pub p-copied : m′ .p ≡ suc (copyOfP (m .links .levels) (m .links .e))
+
+throw-row : (i : Instruction) (mem : List ℕ) (m : Machine) → (top m ≡ 0 → ⊥) → rowOf i mem m THROW ≡ throwRow i mem m
+unfolding rowOf
+throw-row i mem m other = ap (λ (b : Bool). pick b (cells i mem m []) (throwRow i mem m)) (ne-eqb (top m) 0 other)
+
+pub throw-leaves : (mem : List ℕ) (m : Machine) (mem′ : List ℕ) (m′ : Machine) (k : ℕ) → stepOf mem m ≡ done mem′ m′ k →
+    byteAt mem (m .counter) ≡ 0x0D → (top m ≡ 0 → ⊥) → Thrown m m′
+unfolding entryAt table
+throw-leaves mem m mem′ m′ k e is other =
+    let i = instructionAt mem (m .counter) in
+    let l : m′ ≡ put (throwRow i mem m) m = left-by mem m mem′ m′ k _ (row-of mem m 0x0D is ∙ throw-row i mem m other) e in
+    let p-is : m′ .p ≡ copyOfP (m .links .levels) (m .links .e) + 1 = ap (λ (x : Machine). x .p) l in
+    record {
+      goes = ap (λ (x : Machine). x .counter) l;
+      s-copied = ap (λ (x : Machine). x .links .s) l;
+      r-copied = ap (λ (x : Machine). x .links .r) l;
+      p-copied = omega arith;
+    }

@@ -1,0 +1,5 @@
+pub mod Digits
+pub mod Meaning
+pub mod Size
+pub mod Only
+pub mod Sample

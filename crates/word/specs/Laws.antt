@@ -1,0 +1,5 @@
+pub mod Bounds
+pub mod Fits
+pub mod Only
+mod Samples
+pub mod Tests
