@@ -1,3 +1,4 @@
+pub mod Outcomes
 pub mod Truth
 pub mod Sums
 pub mod Compare

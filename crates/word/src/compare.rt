@@ -1,6 +1,7 @@
 // Comparisons: a truth cell, and the flag as it came.
 ghost use mathlib.Core.Path.{_≡_};
 ghost use Rattle.word.specs.Compare.{lifted, equalOf, unequalOf, lessOf, greaterOf, belowOf, aboveOf, zeroEqualOf, zeroUnequalOf, zeroLessOf, zeroGreaterOf};
+ghost use Rattle.word.specs.Outcomes.{saysOutcome};
 use crate::Changed;
 use crate::Outcome;
 use crate::truth::truth;
@@ -16,42 +17,42 @@ fn lift(x: u32) -> u32
 
 // = ( x y -- truth )
 pub fn equal(x: u32, y: u32, flag: u32) -> Outcome
-    ensures { λ r. ⌜ r ≡ equalOf x y flag ⌝ }
+    ensures { λ r. ⌜ saysOutcome r ≡ saysOutcome (equalOf x y flag) ⌝ }
 {
     Outcome::Single(truth(x == y), flag)
 }
 
 // <> ( x y -- truth )
 pub fn unequal(x: u32, y: u32, flag: u32) -> Outcome
-    ensures { λ r. ⌜ r ≡ unequalOf x y flag ⌝ }
+    ensures { λ r. ⌜ saysOutcome r ≡ saysOutcome (unequalOf x y flag) ⌝ }
 {
     Outcome::Single(truth(x != y), flag)
 }
 
 // < ( x y -- truth )
 pub fn less(x: u32, y: u32, flag: u32) -> Outcome
-    ensures { λ r. ⌜ r ≡ lessOf x y flag ⌝ }
+    ensures { λ r. ⌜ saysOutcome r ≡ saysOutcome (lessOf x y flag) ⌝ }
 {
     Outcome::Single(truth(lift(x) < lift(y)), flag)
 }
 
 // > ( x y -- truth )
 pub fn greater(x: u32, y: u32, flag: u32) -> Outcome
-    ensures { λ r. ⌜ r ≡ greaterOf x y flag ⌝ }
+    ensures { λ r. ⌜ saysOutcome r ≡ saysOutcome (greaterOf x y flag) ⌝ }
 {
     Outcome::Single(truth(lift(y) < lift(x)), flag)
 }
 
 // U< ( x y -- truth )
 pub fn below(x: u32, y: u32, flag: u32) -> Outcome
-    ensures { λ r. ⌜ r ≡ belowOf x y flag ⌝ }
+    ensures { λ r. ⌜ saysOutcome r ≡ saysOutcome (belowOf x y flag) ⌝ }
 {
     Outcome::Single(truth(x < y), flag)
 }
 
 // U> ( x y -- truth )
 pub fn above(x: u32, y: u32, flag: u32) -> Outcome
-    ensures { λ r. ⌜ r ≡ aboveOf x y flag ⌝ }
+    ensures { λ r. ⌜ saysOutcome r ≡ saysOutcome (aboveOf x y flag) ⌝ }
 {
     Outcome::Single(truth(y < x), flag)
 }

@@ -1,13 +1,14 @@
 // Sums and differences that wrap, and what they do to the flag.
 ghost use mathlib.Core.Path.{_≡_};
 ghost use Rattle.word.specs.Sums.{plusOf, minusOf, negateOf, incrementOf, decrementOf, addExtendedOf, subtractExtendedOf};
+ghost use Rattle.word.specs.Outcomes.{saysOutcome};
 use crate::Changed;
 use crate::Outcome;
 use crate::truth::bit;
 
 // + ( x y -- x+y ): a wrapped sum is below x just when it carried.
 pub fn plus(x: u32, y: u32, flag: u32) -> Outcome
-    ensures { λ r. ⌜ r ≡ plusOf x y flag ⌝ }
+    ensures { λ r. ⌜ saysOutcome r ≡ saysOutcome (plusOf x y flag) ⌝ }
 {
     let sum = std::num::wrapping_add_u32(x, y);
     Outcome::Single(sum, bit(sum < x))
@@ -15,7 +16,7 @@ pub fn plus(x: u32, y: u32, flag: u32) -> Outcome
 
 // - ( x y -- x-y )
 pub fn minus(x: u32, y: u32, flag: u32) -> Outcome
-    ensures { λ r. ⌜ r ≡ minusOf x y flag ⌝ }
+    ensures { λ r. ⌜ saysOutcome r ≡ saysOutcome (minusOf x y flag) ⌝ }
 {
     Outcome::Single(std::num::wrapping_sub_u32(x, y), bit(x < y))
 }
@@ -53,7 +54,7 @@ pub fn decrement(x: u32, flag: u32) -> Changed
 
 // ADDX ( x y -- x+y+flag ): either of the two additions may carry.
 pub fn add_extended(x: u32, y: u32, flag: u32) -> Outcome
-    ensures { λ r. ⌜ r ≡ addExtendedOf x y flag ⌝ }
+    ensures { λ r. ⌜ saysOutcome r ≡ saysOutcome (addExtendedOf x y flag) ⌝ }
 {
     let sum = std::num::wrapping_add_u32(x, y);
     let whole = std::num::wrapping_add_u32(sum, flag);
@@ -62,7 +63,7 @@ pub fn add_extended(x: u32, y: u32, flag: u32) -> Outcome
 
 // SUBX ( x y -- x-y-flag ): either of the two subtractions may borrow.
 pub fn subtract_extended(x: u32, y: u32, flag: u32) -> Outcome
-    ensures { λ r. ⌜ r ≡ subtractExtendedOf x y flag ⌝ }
+    ensures { λ r. ⌜ saysOutcome r ≡ saysOutcome (subtractExtendedOf x y flag) ⌝ }
 {
     let rest = std::num::wrapping_sub_u32(x, y);
     let whole = std::num::wrapping_sub_u32(rest, flag);
