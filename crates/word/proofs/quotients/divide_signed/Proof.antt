@@ -5,7 +5,7 @@ use borrow.Author.Needs.{needs}
 use borrow.Author.Tests.{eq-eqb, ne-eqb}
 use mathlib.Core.Path.{_∙_}
 use Rattle.word.proofs.Parts.{double}
-use Rattle.word.specs.Meaning.Magnitude.{magnitude-positive}
+use Rattle.word.specs.Laws.Magnitude.{magnitude-positive}
 use Rattle.word.specs.Quotients.{withSign, isNegative}
 use Rattle.word.proofs.quotients.divide_signed.Statement.{statement}
 use Rattle.word.proofs.quotients.divide_signed.Tie as tie

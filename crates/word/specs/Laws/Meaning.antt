@@ -1,5 +1,3 @@
-pub mod Integers
-pub mod Magnitude
 pub mod Sums
 pub mod Order
 pub mod Bits

@@ -11,7 +11,8 @@ use borrow.Author.Tests.{lt-ltb, le-ltb}
 use Rattle.word.specs.Truth.{truthOf}
 use Rattle.word.specs.Compare.{lifted, lessOf, greaterOf, zeroLessOf, zeroGreaterOf}
 use Rattle.word.specs.Laws.Tests.{same-test, either-order}
-use Rattle.word.specs.Meaning.Integers.{signed, signed-low, signed-negsuc}
+use Rattle.word.specs.Integers.{signed}
+use Rattle.word.specs.Laws.Integers.{signed-low, signed-negsuc}
 use Rattle.word.specs.declared.Outcome.the-variants.{Single}
 
 module _ (x y : ℕ) (hx : x < 2 ^ 32) (hy : y < 2 ^ 32) where

@@ -9,8 +9,9 @@ use lib.IntN.{ℤ, _*ℤ_}
 use borrow.Author.Tests.{leb-true, leb-false}
 use Rattle.word.specs.Products.{wide, multiplySignedOf, multiplyUnsignedOf}
 use Rattle.word.specs.Quotients.{isNegative, magnitudeOf, withSign, apart}
-use Rattle.word.specs.Meaning.Integers.{signed, signedAt, heldAt, times, read-back}
-use Rattle.word.specs.Meaning.Magnitude.{signed-size, magnitude-le}
+use Rattle.word.specs.Integers.{signed, signedAt}
+use Rattle.word.specs.Laws.Integers.{heldAt, times, read-back}
+use Rattle.word.specs.Laws.Magnitude.{signed-size, magnitude-le}
 use Rattle.word.specs.declared.Outcome.the-variants.{Double}
 
 pub multiply-unsigned-means : (x y flag low high : ℕ) → multiplyUnsignedOf x y flag ≡ Double low high flag → low + high * 2 ^ 32 ≡ x * y
