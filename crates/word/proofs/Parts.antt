@@ -1,5 +1,4 @@
 -- A result is right where its parts are.
--- Assumes nothing.
 use mathlib.Core.Path.{_≡_}
 use Prim.Native.Nat.{ℕ}
 use Rattle.word.specs.Outcomes.{saysOutcome}

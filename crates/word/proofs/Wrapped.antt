@@ -1,5 +1,4 @@
 -- Wrapped sums and differences: what a comparison after the wrap says of the number before it.
--- Assumes nothing.
 use mathlib.Core.Path.{_≡_, refl, sym, ap}
 use mathlib.Core.Bool.{Bool, true, false}
 use Prim.Native.Nat.{ℕ, suc, _+_, _^_, _%_, _≤_, _<_}

@@ -1,7 +1,6 @@
 -- Comparisons of cells: a truth cell, and the flag as it came.
--- Assumes nothing.
 use Prim.Native.Nat.{ℕ, _+_, _^_, _%_}
-use mathlib.Core.Bool.{not}
+use mathlib.Core.Bool.{Bool, not}
 use lib.Dec.{ltb, eqb}
 use Rattle.word.specs.Truth.{truthOf}
 use Rattle.word.specs.declared.Changed.{Changed}
@@ -11,6 +10,10 @@ use Rattle.word.specs.declared.Outcome.the-variants.{Single}
 -- half the range added: the signed order of cells is the plain order of these
 abbrev pub lifted : ℕ → ℕ
 lifted x = (x + 2 ^ 31) % 2 ^ 32
+
+-- one cell tested: its truth in its place
+abbrev pub toldOf : Bool → ℕ → Changed
+toldOf holds flag = record { value = truthOf holds; flag = flag }
 
 -- =
 abbrev pub equalOf : ℕ → ℕ → ℕ → Outcome
@@ -38,16 +41,16 @@ aboveOf x y flag = Single (truthOf (ltb y x)) flag
 
 -- 0=
 abbrev pub zeroEqualOf : ℕ → ℕ → Changed
-zeroEqualOf x flag = record { value = truthOf (eqb x 0); flag = flag }
+zeroEqualOf x flag = toldOf (eqb x 0) flag
 
 -- 0<>
 abbrev pub zeroUnequalOf : ℕ → ℕ → Changed
-zeroUnequalOf x flag = record { value = truthOf (not (eqb x 0)); flag = flag }
+zeroUnequalOf x flag = toldOf (not (eqb x 0)) flag
 
 -- 0<
 abbrev pub zeroLessOf : ℕ → ℕ → Changed
-zeroLessOf x flag = record { value = truthOf (ltb (lifted x) (lifted 0)); flag = flag }
+zeroLessOf x flag = toldOf (ltb (lifted x) (lifted 0)) flag
 
 -- 0>
 abbrev pub zeroGreaterOf : ℕ → ℕ → Changed
-zeroGreaterOf x flag = record { value = truthOf (ltb (lifted 0) (lifted x)); flag = flag }
+zeroGreaterOf x flag = toldOf (ltb (lifted 0) (lifted x)) flag

@@ -1,5 +1,4 @@
 -- Shifts by one place, and sign extension; the flag stays as it came.
--- Assumes nothing.
 use Prim.Native.Nat.{ℕ, _+_, _-_, _*_, _/_, _^_, _%_}
 use Rattle.word.specs.declared.Changed.{Changed}
 

@@ -1,6 +1,5 @@
 -- Sums and differences of cells. They wrap at 2 ^ 32; the flag becomes the carry or the borrow.
 -- A difference is taken from 2 ^ 33 more, which no cell and flag together pass, so that it is no less than 0.
--- Assumes nothing.
 use Prim.Native.Nat.{ℕ, _+_, _-_, _^_, _%_}
 use lib.Dec.{leb, ltb}
 use Rattle.word.specs.Truth.{bitOf}

@@ -1,5 +1,4 @@
 -- How a test becomes a cell, and how it becomes a flag.
--- Assumes nothing.
 use Prim.Native.Nat.{ℕ, _-_, _^_}
 use mathlib.Core.Bool.{Bool, true, false}
 

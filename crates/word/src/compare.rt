@@ -1,6 +1,6 @@
 // Comparisons: a truth cell, and the flag as it came.
 ghost use mathlib.Core.Path.{_≡_};
-ghost use Rattle.word.specs.Compare.{lifted, equalOf, unequalOf, lessOf, greaterOf, belowOf, aboveOf, zeroEqualOf, zeroUnequalOf, zeroLessOf, zeroGreaterOf};
+ghost use Rattle.word.specs.Compare.{lifted, toldOf, equalOf, unequalOf, lessOf, greaterOf, belowOf, aboveOf, zeroEqualOf, zeroUnequalOf, zeroLessOf, zeroGreaterOf};
 ghost use Rattle.word.specs.Outcomes.{saysOutcome};
 use crate::Changed;
 use crate::Outcome;
@@ -13,6 +13,16 @@ fn lift(x: u32) -> u32
     ensures { λ r. ⌜ r ≡ lifted x ⌝ }
 {
     std::num::wrapping_add_u32(x, HALF)
+}
+
+// One cell tested: its truth in its place.
+fn told(holds: bool, flag: u32) -> Changed
+    ensures { λ r. ⌜ r ≡ toldOf holds flag ⌝ }
+{
+    Changed {
+        value: truth(holds),
+        flag,
+    }
 }
 
 // = ( x y -- truth )
@@ -40,7 +50,7 @@ pub fn less(x: u32, y: u32, flag: u32) -> Outcome
 pub fn greater(x: u32, y: u32, flag: u32) -> Outcome
     ensures { λ r. ⌜ saysOutcome r ≡ saysOutcome (greaterOf x y flag) ⌝ }
 {
-    Outcome::Single(truth(lift(y) < lift(x)), flag)
+    less(y, x, flag)
 }
 
 // U< ( x y -- truth )
@@ -54,45 +64,33 @@ pub fn below(x: u32, y: u32, flag: u32) -> Outcome
 pub fn above(x: u32, y: u32, flag: u32) -> Outcome
     ensures { λ r. ⌜ saysOutcome r ≡ saysOutcome (aboveOf x y flag) ⌝ }
 {
-    Outcome::Single(truth(y < x), flag)
+    below(y, x, flag)
 }
 
 // 0= ( x -- truth )
 pub fn zero_equal(x: u32, flag: u32) -> Changed
     ensures { λ r. ⌜ r ≡ zeroEqualOf x flag ⌝ }
 {
-    Changed {
-        value: truth(x == 0),
-        flag,
-    }
+    told(x == 0, flag)
 }
 
 // 0<> ( x -- truth )
 pub fn zero_unequal(x: u32, flag: u32) -> Changed
     ensures { λ r. ⌜ r ≡ zeroUnequalOf x flag ⌝ }
 {
-    Changed {
-        value: truth(x != 0),
-        flag,
-    }
+    told(x != 0, flag)
 }
 
 // 0< ( x -- truth )
 pub fn zero_less(x: u32, flag: u32) -> Changed
     ensures { λ r. ⌜ r ≡ zeroLessOf x flag ⌝ }
 {
-    Changed {
-        value: truth(lift(x) < HALF),
-        flag,
-    }
+    told(lift(x) < HALF, flag)
 }
 
 // 0> ( x -- truth )
 pub fn zero_greater(x: u32, flag: u32) -> Changed
     ensures { λ r. ⌜ r ≡ zeroGreaterOf x flag ⌝ }
 {
-    Changed {
-        value: truth(HALF < lift(x)),
-        flag,
-    }
+    told(HALF < lift(x), flag)
 }

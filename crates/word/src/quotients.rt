@@ -1,4 +1,4 @@
-// Divisions: the remainder under, the quotient on top; the flag stays. No divisor is zero.
+// Divisions: the remainder under, the quotient on top; the flag stays. A divisor of zero is refused.
 ghost use mathlib.Core.Path.{_≡_};
 ghost use Rattle.word.specs.Quotients.{divideSignedOf, divideUnsignedOf, magnitudeOf, withSign, apart};
 ghost use Rattle.word.specs.Outcomes.{saysOutcome};

@@ -1,5 +1,4 @@
 -- What the operations leave fits: every cell is below 2 ^ 32.
--- Assumes nothing.
 use mathlib.Core.Bool.{Bool, true, false, not}
 use Prim.Native.Nat.{ℕ, _*_, _^_, _%_, _<_}
 use native.Mathlib.Nat.{lt-of-le-of-lt, mod-le, div-le-self}

@@ -1,5 +1,4 @@
 -- Worked samples of the definitions, each by computation.
--- Assumes nothing.
 use mathlib.Core.Path.{_≡_, refl}
 use Rattle.word.specs.Sums.{plusOf, incrementOf, negateOf, addExtendedOf, subtractExtendedOf}
 use Rattle.word.specs.Compare.{lessOf, belowOf}

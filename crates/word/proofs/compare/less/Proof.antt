@@ -1,5 +1,4 @@
 -- `word::less` meets its contract: the truth of its test on the lifted cells.
--- Assumes nothing.
 use Prim.Native.Nat.{ℕ}
 use borrow.Author.Needs.{needs}
 use lib.Dec.{ltb}
@@ -9,17 +8,8 @@ use Rattle.word.specs.Truth.{truthOf}
 use Rattle.word.proofs.compare.less.Statement.{statement}
 use Rattle.word.proofs.compare.less.Tie as tie
 
-lift-requires : tie.Need-lift-requires
-lift-requires c κs = search needs
-
-lift-requires-2 : tie.Need-lift-requires-2
-lift-requires-2 c κs = search needs
-
-truth-requires : tie.Need-truth-requires
-truth-requires c κs = search needs
-
 returns : tie.Need-returns
 returns c = single (c .truth .ensures ∙ ap₂ (λ (m n : ℕ). truthOf (ltb m n)) (c .before .before .lift .ensures) (c .before .lift2 .ensures)) refl
 
 pub less-spec : {M : Type 1} → statement M
-less-spec = tie.close (tie.spec lift-requires lift-requires-2 truth-requires returns)
+less-spec = tie.close (tie.spec (λ c κs. search needs) (λ c κs. search needs) (λ c κs. search needs) returns)

@@ -1,5 +1,4 @@
 -- `word::add_extended` meets its contract: one of its two sums carried just when the whole did.
--- Assumes nothing.
 use borrow.Author.Needs.{needs}
 use lib.Bits.{bitOr}
 use mathlib.Core.Path.{_∙_, ap₂}
@@ -8,18 +7,6 @@ use Rattle.word.proofs.Parts.{single}
 use Rattle.word.proofs.Wrapped.{carried-twice}
 use Rattle.word.proofs.sums.add_extended.Statement.{statement}
 use Rattle.word.proofs.sums.add_extended.Tie as tie
-
-wrapping-add-u32-requires : tie.Need-wrapping-add-u32-requires
-wrapping-add-u32-requires c κs = search needs
-
-wrapping-add-u32-requires-2 : tie.Need-wrapping-add-u32-requires-2
-wrapping-add-u32-requires-2 c κs = search needs
-
-bit-requires : tie.Need-bit-requires
-bit-requires c κs = search needs
-
-bit-requires-2 : tie.Need-bit-requires-2
-bit-requires-2 c κs = search needs
 
 returns : tie.Need-returns
 returns c =
@@ -34,8 +21,8 @@ pub add-extended-spec : {M : Type 1} → statement M
 add-extended-spec =
     tie.close
     (tie.spec
-    wrapping-add-u32-requires
-    wrapping-add-u32-requires-2
-    bit-requires
-    bit-requires-2
+    (λ c κs. search needs)
+    (λ c κs. search needs)
+    (λ c κs. search needs)
+    (λ c κs. search needs)
     returns)

@@ -1,17 +1,10 @@
 -- `word::increment` meets its contract: the sum is below x just when it carried.
--- Assumes nothing.
 use borrow.Author.Needs.{needs}
 use mathlib.Core.Path.{_∙_}
 use Rattle.word.proofs.Parts.{changed}
 use Rattle.word.proofs.Wrapped.{carried}
 use Rattle.word.proofs.sums.increment.Statement.{statement}
 use Rattle.word.proofs.sums.increment.Tie as tie
-
-wrapping-add-u32-requires : tie.Need-wrapping-add-u32-requires
-wrapping-add-u32-requires c κs = search needs
-
-bit-requires : tie.Need-bit-requires
-bit-requires c κs = search needs
 
 returns : tie.Need-returns
 returns c =
@@ -20,4 +13,4 @@ returns c =
     (c .bit .ensures ∙ carried (a .x) 1 (c .before .wrapping-add-u32 .result) (search needs) (search needs) (c .before .wrapping-add-u32 .ensures))
 
 pub increment-spec : {M : Type 1} → statement M
-increment-spec = tie.close (tie.spec wrapping-add-u32-requires bit-requires returns)
+increment-spec = tie.close (tie.spec (λ c κs. search needs) (λ c κs. search needs) returns)

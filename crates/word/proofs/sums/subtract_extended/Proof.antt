@@ -1,5 +1,4 @@
 -- `word::subtract_extended` meets its contract: one of its two differences borrowed just when the whole did.
--- Assumes nothing.
 use borrow.Author.Needs.{needs}
 use lib.Bits.{bitOr}
 use mathlib.Core.Path.{_∙_, ap₂}
@@ -8,18 +7,6 @@ use Rattle.word.proofs.Parts.{single}
 use Rattle.word.proofs.Wrapped.{borrowed-twice}
 use Rattle.word.proofs.sums.subtract_extended.Statement.{statement}
 use Rattle.word.proofs.sums.subtract_extended.Tie as tie
-
-wrapping-sub-u32-requires : tie.Need-wrapping-sub-u32-requires
-wrapping-sub-u32-requires c κs = search needs
-
-wrapping-sub-u32-requires-2 : tie.Need-wrapping-sub-u32-requires-2
-wrapping-sub-u32-requires-2 c κs = search needs
-
-bit-requires : tie.Need-bit-requires
-bit-requires c κs = search needs
-
-bit-requires-2 : tie.Need-bit-requires-2
-bit-requires-2 c κs = search needs
 
 returns : tie.Need-returns
 returns c =
@@ -33,8 +20,8 @@ pub subtract-extended-spec : {M : Type 1} → statement M
 subtract-extended-spec =
     tie.close
     (tie.spec
-    wrapping-sub-u32-requires
-    wrapping-sub-u32-requires-2
-    bit-requires
-    bit-requires-2
+    (λ c κs. search needs)
+    (λ c κs. search needs)
+    (λ c κs. search needs)
+    (λ c κs. search needs)
     returns)

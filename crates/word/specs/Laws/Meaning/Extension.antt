@@ -1,5 +1,4 @@
 -- 2/ is the floor of half the integer; XBYTE and XWORD keep the integer that the low bits hold.
--- Assumes nothing.
 use mathlib.Core.Path.{_≡_, sym, ap, _∙_}
 use mathlib.Core.Bool.{true, false}
 use Prim.Native.Nat.{ℕ, _+_, _-_, _*_, _/_, _^_, _%_, _≤_, _<_}

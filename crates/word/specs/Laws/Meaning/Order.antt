@@ -1,5 +1,4 @@
 -- The signed comparisons go by the order of the integers that the cells hold.
--- Assumes nothing.
 use mathlib.Core.Path.{_≡_, sym, ap, ap₂, _∙_}
 use mathlib.Core.Bool.{Bool}
 use Prim.Native.Nat.{ℕ, suc, _-_, _^_, _≤_, _<_}
