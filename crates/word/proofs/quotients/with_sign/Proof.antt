@@ -7,5 +7,8 @@ use Rattle.word.proofs.quotients.with_sign.Tie as tie
 returns : tie.Need-returns
 returns c = rw (c .before .if1 .taken) (omega arith)
 
+returns-2 : tie.Need-returns-2
+returns-2 c = search needs
+
 pub with-sign-spec : {M : Type 1} → statement M
-with-sign-spec = tie.close (tie.spec (λ c κs. search needs) returns (λ c. search needs))
+with-sign-spec = tie.close (tie.spec (λ c κs. search needs) returns returns-2)
