@@ -18,11 +18,4 @@ returns c =
     ∙ carried-twice (a .x) (a .y) (a .flag) (sum .result) (whole .result) (search needs) (search needs) (search needs) (sum .ensures) (whole .ensures))
 
 pub add-extended-spec : {M : Type 1} → statement M
-add-extended-spec =
-    tie.close
-    (tie.spec
-    (λ c κs. search needs)
-    (λ c κs. search needs)
-    (λ c κs. search needs)
-    (λ c κs. search needs)
-    returns)
+add-extended-spec = tie.close (tie.spec (λ c κs. search needs) (λ c κs. search needs) (λ c κs. search needs) (λ c κs. search needs) returns)

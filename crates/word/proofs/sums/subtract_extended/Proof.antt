@@ -17,11 +17,4 @@ returns c =
     ∙ borrowed-twice (a .x) (a .y) (a .flag) (rest .result) (search needs) (search needs) (search needs) (rest .ensures))
 
 pub subtract-extended-spec : {M : Type 1} → statement M
-subtract-extended-spec =
-    tie.close
-    (tie.spec
-    (λ c κs. search needs)
-    (λ c κs. search needs)
-    (λ c κs. search needs)
-    (λ c κs. search needs)
-    returns)
+subtract-extended-spec = tie.close (tie.spec (λ c κs. search needs) (λ c κs. search needs) (λ c κs. search needs) (λ c κs. search needs) returns)
