@@ -1,15 +1,14 @@
 -- Comparisons of cells: a truth cell, and the flag as it came.
-use Prim.Native.Nat.{ℕ, _+_, _^_, _%_}
+use Prim.Native.Nat.{ℕ}
 use mathlib.Core.Bool.{Bool, not}
 use lib.Dec.{ltb, eqb}
+use lib.IntN.{pos}
+use lib.Signed.{ltZ}
+use Rattle.word.specs.Integers.{signed}
 use Rattle.word.specs.Truth.{truthOf}
 use Rattle.word.specs.declared.Changed.{Changed}
 use Rattle.word.specs.declared.Outcome.{Outcome}
 use Rattle.word.specs.declared.Outcome.the-variants.{Single}
-
--- half the range added: the signed order of cells is the plain order of these
-abbrev pub lifted : ℕ → ℕ
-lifted x = (x + 2 ^ 31) % 2 ^ 32
 
 -- one cell tested: its truth in its place
 abbrev pub toldOf : Bool → ℕ → Changed
@@ -25,11 +24,11 @@ unequalOf x y flag = Single (truthOf (not (eqb x y))) flag
 
 -- <
 abbrev pub lessOf : ℕ → ℕ → ℕ → Outcome
-lessOf x y flag = Single (truthOf (ltb (lifted x) (lifted y))) flag
+lessOf x y flag = Single (truthOf (ltZ (signed x) (signed y))) flag
 
 -- >
 abbrev pub greaterOf : ℕ → ℕ → ℕ → Outcome
-greaterOf x y flag = Single (truthOf (ltb (lifted y) (lifted x))) flag
+greaterOf x y flag = Single (truthOf (ltZ (signed y) (signed x))) flag
 
 -- U<
 abbrev pub belowOf : ℕ → ℕ → ℕ → Outcome
@@ -49,8 +48,8 @@ zeroUnequalOf x flag = toldOf (not (eqb x 0)) flag
 
 -- 0<
 abbrev pub zeroLessOf : ℕ → ℕ → Changed
-zeroLessOf x flag = toldOf (ltb (lifted x) (lifted 0)) flag
+zeroLessOf x flag = toldOf (ltZ (signed x) (pos 0)) flag
 
 -- 0>
 abbrev pub zeroGreaterOf : ℕ → ℕ → Changed
-zeroGreaterOf x flag = toldOf (ltb (lifted 0) (lifted x)) flag
+zeroGreaterOf x flag = toldOf (ltZ (pos 0) (signed x)) flag

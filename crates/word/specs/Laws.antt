@@ -13,6 +13,8 @@ pub mod Only
 -- integers, and cells as a sign and a size
 pub mod Integers
 pub mod Magnitude
+-- the order of integers, as the code finds it
+pub mod Order
 -- what the operations mean to a mathematician
 pub mod Meaning
 mod Samples

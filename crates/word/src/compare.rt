@@ -1,6 +1,7 @@
 // Comparisons: a truth cell, and the flag as it came.
 ghost use mathlib.Core.Path.{_≡_};
-ghost use Rattle.word.specs.Compare.{lifted, toldOf, equalOf, unequalOf, lessOf, greaterOf, belowOf, aboveOf, zeroEqualOf, zeroUnequalOf, zeroLessOf, zeroGreaterOf};
+ghost use Rattle.word.specs.Compare.{toldOf, equalOf, unequalOf, lessOf, greaterOf, belowOf, aboveOf, zeroEqualOf, zeroUnequalOf, zeroLessOf, zeroGreaterOf};
+ghost use Rattle.word.specs.Laws.Order.{lifted};
 ghost use Rattle.word.specs.Outcomes.{saysOutcome};
 use crate::Changed;
 use crate::Outcome;

@@ -1,5 +1,4 @@
 pub mod Sums
-pub mod Order
 pub mod Bits
 pub mod Extension
 pub mod Products
