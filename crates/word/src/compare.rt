@@ -1,19 +1,20 @@
 // Comparisons: a truth cell, and the flag as it came.
+ghost use lib.Signed.{ltZ};
 ghost use mathlib.Core.Path.{_≡_};
 ghost use Rattle.word.specs.Compare.{toldOf, equalOf, unequalOf, lessOf, greaterOf, belowOf, aboveOf, zeroEqualOf, zeroUnequalOf, zeroLessOf, zeroGreaterOf};
-ghost use Rattle.word.specs.Laws.Order.{lifted};
+ghost use Rattle.word.specs.Integers.{signed};
 ghost use Rattle.word.specs.Outcomes.{saysOutcome};
 use crate::Changed;
 use crate::Outcome;
 use crate::truth::truth;
 
+// Half the range: added to both, it turns the signed order into the unsigned one.
 const HALF: u32 = 0x8000_0000;
 
-// Half the range added turns the signed order into the unsigned one.
-fn lift(x: u32) -> u32
-    ensures { λ r. ⌜ r ≡ lifted x ⌝ }
+fn is_less(x: u32, y: u32) -> bool
+    ensures { λ r. ⌜ r ≡ ltZ (signed x) (signed y) ⌝ }
 {
-    std::num::wrapping_add_u32(x, HALF)
+    std::num::wrapping_add_u32(x, HALF) < std::num::wrapping_add_u32(y, HALF)
 }
 
 // One cell tested: its truth in its place.
@@ -44,7 +45,7 @@ pub fn unequal(x: u32, y: u32, flag: u32) -> Outcome
 pub fn less(x: u32, y: u32, flag: u32) -> Outcome
     ensures { λ r. ⌜ saysOutcome r ≡ saysOutcome (lessOf x y flag) ⌝ }
 {
-    Outcome::Single(truth(lift(x) < lift(y)), flag)
+    Outcome::Single(truth(is_less(x, y)), flag)
 }
 
 // > ( x y -- truth )
@@ -86,12 +87,12 @@ pub fn zero_unequal(x: u32, flag: u32) -> Changed
 pub fn zero_less(x: u32, flag: u32) -> Changed
     ensures { λ r. ⌜ r ≡ zeroLessOf x flag ⌝ }
 {
-    told(lift(x) < HALF, flag)
+    told(is_less(x, 0), flag)
 }
 
 // 0> ( x -- truth )
 pub fn zero_greater(x: u32, flag: u32) -> Changed
     ensures { λ r. ⌜ r ≡ zeroGreaterOf x flag ⌝ }
 {
-    told(HALF < lift(x), flag)
+    told(is_less(0, x), flag)
 }
