@@ -2,6 +2,7 @@
 use mathlib.Core.Path.{_≡_}
 use Prim.Native.Nat.{ℕ}
 use Rattle.word.specs.Outcomes.{saysOutcome}
+use Rattle.word.specs.Sums.{alone}
 use Rattle.word.specs.declared.Changed.{Changed}
 use Rattle.word.specs.declared.Outcome.the-variants.{Single, Double}
 
@@ -13,3 +14,6 @@ single p q = λ i. saysOutcome (Single (p i) (q i))
 
 pub double : {u v w x f : ℕ} → u ≡ v → w ≡ x → saysOutcome (Double u w f) ≡ saysOutcome (Double v x f)
 double {f = f} p q = λ i. saysOutcome (Double (p i) (q i) f)
+
+pub stands-alone : {c d : Changed} → c ≡ d → saysOutcome (alone c) ≡ saysOutcome (alone d)
+stands-alone e = λ i. saysOutcome (alone (e i))

@@ -5,12 +5,11 @@ ghost use Rattle.word.specs.Compare.{toldOf, equalOf, unequalOf, lessOf,
 ghost use Rattle.word.specs.Integers.{signed};
 ghost use Rattle.word.specs.Outcomes.{saysOutcome};
 use crate::Changed;
+use crate::HALF;
 use crate::Outcome;
 use crate::truth::truth;
 
-// Half the range: added to both, it turns the signed order into the unsigned one.
-const HALF: u32 = 0x8000_0000;
-
+// Half the range, added to both, turns the signed order into the unsigned one.
 fn is_less(x: u32, y: u32) -> bool
     ensures { λ r. ⌜ r ≡ ltZ (signed x) (signed y) ⌝ }
 {

@@ -42,6 +42,9 @@ pub use sums::negate;
 pub use sums::plus;
 pub use sums::subtract_extended;
 
+// Half the range of a cell: a cell that is not below it holds an integer below zero.
+pub(crate) const HALF: u32 = 0x8000_0000;
+
 // What an operation on one cell leaves: the cell and the flag.
 pub struct Changed {
     pub value: u32,

@@ -2,9 +2,8 @@
 ghost use mathlib.Core.Path.{_≡_};
 ghost use Rattle.word.specs.Quotients.{divideSignedOf, divideUnsignedOf, magnitudeOf, withSign, apart};
 ghost use Rattle.word.specs.Outcomes.{saysOutcome};
+use crate::HALF;
 use crate::Outcome;
-
-const HALF: u32 = 0x8000_0000;
 
 fn magnitude(x: u32) -> u32
     ensures { λ r. ⌜ r ≡ magnitudeOf x ⌝ }
