@@ -22,7 +22,7 @@ equalOf x y flag = Single (truthOf (eqb x y)) flag
 abbrev pub unequalOf : ℕ → ℕ → ℕ → Outcome
 unequalOf x y flag = Single (truthOf (not (eqb x y))) flag
 
--- <
+-- <, of the integers that the cells hold
 abbrev pub lessOf : ℕ → ℕ → ℕ → Outcome
 lessOf x y flag = Single (truthOf (ltZ (signed x) (signed y))) flag
 
@@ -30,7 +30,7 @@ lessOf x y flag = Single (truthOf (ltZ (signed x) (signed y))) flag
 abbrev pub greaterOf : ℕ → ℕ → ℕ → Outcome
 greaterOf x y flag = Single (truthOf (ltZ (signed y) (signed x))) flag
 
--- U<
+-- U<, of the cells as they are
 abbrev pub belowOf : ℕ → ℕ → ℕ → Outcome
 belowOf x y flag = Single (truthOf (ltb x y)) flag
 

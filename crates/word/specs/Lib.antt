@@ -1,17 +1,19 @@
 -- Definitions: what a reader must believe.
--- how a test becomes a cell, and how it becomes a flag
+-- a test as a cell, and as a flag
 pub mod Truth
--- +, -, NEGATE, 1+, 1-, ADDX, SUBX
+-- the integer that a cell holds
+pub mod Integers
+-- 0E to 12, 14, 15: +, -, NEGATE, 1+, 1-, ADDX, SUBX
 pub mod Sums
--- =, <>, <, >, U<, U>, 0=, 0<>, 0<, 0>
+-- 16 to 1F: =, <>, <, >, U<, U>, 0=, 0<>, 0<, 0>
 pub mod Compare
--- AND, OR, INVERT, XOR
+-- 21 to 24: AND, OR, INVERT, XOR
 pub mod Bits
--- 2/, LSL, LSR, XBYTE, XWORD
+-- 13, 25 to 28: 2/, LSL, LSR, XBYTE, XWORD
 pub mod Shifts
--- MULTS, MULTU
+-- 29, 2A: MULTS, MULTU
 pub mod Products
--- DIVS, DIVU
+-- 2B, 2C: DIVS, DIVU
 pub mod Quotients
 -- all of them by name, in the order of their codes
 pub mod Dispatch
@@ -19,7 +21,5 @@ pub mod Dispatch
 pub mod Outcomes
 -- who moves the flag
 pub mod Flag
--- cells read as integers, for the theorems of meaning
-pub mod Integers
 -- Laws: what is proved of the definitions.
 pub mod Laws

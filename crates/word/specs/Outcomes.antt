@@ -9,7 +9,7 @@ use Rattle.word.specs.declared.Outcome.the-variants.{Single, Double, Div
 pub data Left : Type 0 where
   leaves : List ℕ → ℕ → Left
 
--- 13 is a divisor of zero
+-- answer 13: divisor zero
 abbrev pub saysOutcome : Outcome → Answer Left
 saysOutcome (Single value flag) = gives (leaves (value ∷ []) flag)
 saysOutcome (Double lower upper flag) = gives (leaves (lower ∷ upper ∷ []) flag)

@@ -7,6 +7,7 @@ abbrev pub truthOf : Bool → ℕ
 truthOf true = 2 ^ 32 - 1
 truthOf false = 0
 
+-- a carry or a borrow in the flag
 abbrev pub bitOf : Bool → ℕ
 bitOf true = 1
 bitOf false = 0

@@ -51,7 +51,7 @@ pub struct Changed {
     pub flag: u32,
 }
 
-// What an operation on two cells leaves: a cell and the flag; or two cells, the top second, and the flag.
+// What an operation on two cells answers: a cell and the flag; two cells, the top second, and the flag; or that the divisor is zero.
 pub enum Outcome {
     Single(u32, u32),
     Double(u32, u32, u32),

@@ -1,4 +1,5 @@
 -- DIVU and DIVS divide: the dividend is the divisor times the quotient, and the remainder, which is smaller than the divisor.
+-- The remainder of DIVS has the dividend's sign, so that its quotient is cut toward zero.
 use mathlib.Core.Path.{_≡_, refl, sym, ap, ap₂, subst₂, _∙_}
 use mathlib.Core.Bool.{Bool, true, false}
 use Prim.Native.Nat.{ℕ, _+_, _-_, _*_, _/_, _^_, _%_, _≤_, _<_}
@@ -23,12 +24,6 @@ pub divide-unsigned-means : (x y flag : ℕ) → (y ≡ 0 → ⊥) →
     (r q : ℕ) × (divideUnsignedOf x y flag ≡ Double r q flag) × (x ≡ y * q + r) × (r < y)
 divide-unsigned-means x y flag some =
     (x % y, x / y, divides y some (Double (x % y) (x / y) flag), sym (div-add-mod x y), mod-lt x (omega arith))
-
--- the quotient q and the remainder r of two cells, as integers
-pub record Divided (x y r q : ℕ) : Type 0 where
-  pub whole : signed x ≡ signed y *ℤ signed q +ℤ signed r
-  pub smaller : natAbs (signed r) < natAbs (signed y)
-  pub sign : signed r ≡ signedBy (isNegative x) (natAbs (signed r))
 
 twice-apart : (s t : Bool) → apart t (apart s t) ≡ s
 twice-apart true true = refl
@@ -75,31 +70,32 @@ module _ (x y : ℕ) (hx : x < 2 ^ 32) (hy : y < 2 ^ 32) (some : y ≡ 0 → ⊥
       let h : magnitudeOf x % magnitudeOf y < 2 ^ 31 = lt-of-lt-of-le below (magnitude-le y hy) in
       signed-again (isNegative x) (magnitudeOf x % magnitudeOf y) (le-of-lt h) (λ e. h)
 
-  divided : Divided x y (withSign (isNegative x) (magnitudeOf x % magnitudeOf y)) (withSign (apart (isNegative x) (isNegative y)) (magnitudeOf x / magnitudeOf y))
-  divided =
+  pub divide-signed-means : (flag : ℕ) →
+      (r q : ℕ) × (divideSignedOf x y flag ≡ Double r q flag)
+      × (signed x ≡ signed y *ℤ signed q +ℤ signed r)
+      × (natAbs (signed r) < natAbs (signed y))
+      × (signed r ≡ signedBy (isNegative x) (natAbs (signed r)))
+  divide-signed-means flag =
       let s = isNegative x in
       let t = isNegative y in
       let m = magnitudeOf x in
       let n = magnitudeOf y in
-      let size : natAbs (signed (withSign s (m % n))) ≡ m % n = ap natAbs remainder ∙ size-of s (m % n) in
-      let over : natAbs (signed y) ≡ n = ap natAbs (signed-size y hy) ∙ size-of t n in
-      record {
-        whole =
-            signed-size x hx
+      let r = withSign s (m % n) in
+      let q = withSign (apart s t) (m / n) in
+      let size : natAbs (signed r) ≡ m % n = ap natAbs remainder ∙ size-of s (m % n) in
+      let over : natAbs (signed y) ≡ n = ap natAbs (signed-size y hy) ∙ size-of t n in (
+        r,
+        q,
+        divides y some (Double r q flag),
+        signed-size x hx
             ∙ ap (signedBy s) (sym (div-add-mod m n))
             ∙ sym (plus s (n * (m / n)) (m % n))
             ∙ ap (λ (u : Bool). signedBy u (n * (m / n)) +ℤ signedBy s (m % n)) (sym (twice-apart s t))
             ∙ ap (λ (z : ℤ). z +ℤ signedBy s (m % n)) (sym (times t (apart s t) n (m / n)))
-            ∙ sym (ap₂ (λ (u v : ℤ). u *ℤ signed (withSign (apart s t) (m / n)) +ℤ v) (signed-size y hy) remainder ∙ ap (λ (u : ℤ). signedBy t n *ℤ u +ℤ signedBy s (m % n)) quotient);
-        smaller = subst₂ (λ (u v : ℕ). u < v) (sym size) (sym over) below;
-        sign = remainder ∙ ap (signedBy s) (sym size);
-      }
-
-  pub divide-signed-means : (flag : ℕ) → (r q : ℕ) × (divideSignedOf x y flag ≡ Double r q flag) × Divided x y r q
-  divide-signed-means flag =
-      let r = withSign (isNegative x) (magnitudeOf x % magnitudeOf y) in
-      let q = withSign (apart (isNegative x) (isNegative y)) (magnitudeOf x / magnitudeOf y) in
-      (r, q, divides y some (Double r q flag), divided)
+            ∙ sym (ap₂ (λ (u v : ℤ). u *ℤ signed q +ℤ v) (signed-size y hy) remainder ∙ ap (λ (u : ℤ). signedBy t n *ℤ u +ℤ signedBy s (m % n)) quotient),
+        subst₂ (λ (u v : ℕ). u < v) (sym size) (sym over) below,
+        remainder ∙ ap (signedBy s) (sym size),
+      )
 
 -- the one quotient that no cell holds, 2 ^ 31, wraps
 pub divide-signed-wraps : (flag : ℕ) → divideSignedOf (2 ^ 31) (2 ^ 32 - 1) flag ≡ Double 0 (2 ^ 31) flag
