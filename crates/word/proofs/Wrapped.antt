@@ -15,7 +15,7 @@ use Rattle.word.specs.declared.Outcome.the-variants.{Single}
 use Rattle.word.proofs.Parts.{single}
 
 -- one test or another, as bits, where an order follows from each and fails without both
-pub either-bit : (s t : Bool) (m n : ℕ) → (s ≡ true → m ≤ n) → (t ≡ true → m ≤ n) → (s ≡ false → t ≡ false → n < m) → bitOr (bitOf s) (bitOf t) ≡ bitOf (leb m n)
+either-bit : (s t : Bool) (m n : ℕ) → (s ≡ true → m ≤ n) → (t ≡ true → m ≤ n) → (s ≡ false → t ≡ false → n < m) → bitOr (bitOf s) (bitOf t) ≡ bitOf (leb m n)
 either-bit true true m n one two none = ap bitOf (sym (le-leb m n (one refl)))
 either-bit true false m n one two none = ap bitOf (sym (le-leb m n (one refl)))
 either-bit false true m n one two none = ap bitOf (sym (le-leb m n (two refl)))
