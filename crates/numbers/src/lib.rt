@@ -1,0 +1,1 @@
+// Numbers as bytes, the highest byte first.
