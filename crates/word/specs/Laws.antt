@@ -1,4 +1,5 @@
 pub mod Bounds
+pub mod Flag
 pub mod Fits
 pub mod Only
 mod Samples

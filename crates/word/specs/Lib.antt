@@ -6,5 +6,6 @@ pub mod Shifts
 pub mod Products
 pub mod Quotients
 pub mod Dispatch
+pub mod Flag
 pub mod Meaning
 pub mod Laws
