@@ -1,18 +1,17 @@
--- The signed comparisons go by the order of the integers that the cells hold.
--- Assumes nothing.
-use mathlib.Core.Path.{_≡_, sym, ap, ap₂, _∙_}
-use mathlib.Core.Bool.{Bool}
-use Prim.Native.Nat.{ℕ, suc, _-_, _^_, _≤_, _<_}
+-- The order of the integers that two cells hold is the plain order of the cells with half the range added.
+use mathlib.Core.Path.{_≡_, sym, ap₂, _∙_}
+use Prim.Native.Nat.{ℕ, suc, _+_, _-_, _^_, _%_, _≤_, _<_}
 use native.Mathlib.Omega.{arith}
 use lib.Dec.{ltb}
 use lib.IntN.{ℤ, pos, negsuc}
 use lib.Signed.{ltZ}
 use borrow.Author.Tests.{lt-ltb, le-ltb}
-use Rattle.word.specs.Truth.{truthOf}
-use Rattle.word.specs.Compare.{lifted, lessOf, greaterOf, zeroLessOf, zeroGreaterOf}
 use Rattle.word.specs.Laws.Tests.{same-test, either-order}
-use Rattle.word.specs.Meaning.Integers.{signed, signed-low, signed-negsuc}
-use Rattle.word.specs.declared.Outcome.the-variants.{Single}
+use Rattle.word.specs.Integers.{signed}
+use Rattle.word.specs.Laws.Integers.{signed-low, signed-negsuc}
+
+abbrev pub lifted : ℕ → ℕ
+lifted x = (x + 2 ^ 31) % 2 ^ 32
 
 module _ (x y : ℕ) (hx : x < 2 ^ 32) (hy : y < 2 ^ 32) where
   as-read : (a b : ℤ) → signed x ≡ a → signed y ≡ b → ltb (lifted x) (lifted y) ≡ ltZ a b → ltb (lifted x) (lifted y) ≡ ltZ (signed x) (signed y)
@@ -36,15 +35,3 @@ module _ (x y : ℕ) (hx : x < 2 ^ 32) (hy : y < 2 ^ 32) where
       none p q =
           as-read (pos x) (pos y) (signed-low (2 ^ 31) x p) (signed-low (2 ^ 31) y q)
           (same-test (suc (lifted x)) (lifted y) (suc x) y (λ h. omega arith) (λ h. omega arith))
-
-  pub less-means : (flag : ℕ) → lessOf x y flag ≡ Single (truthOf (ltZ (signed x) (signed y))) flag
-  less-means flag = ap (λ (t : Bool). Single (truthOf t) flag) order
-
-pub greater-means : (x y flag : ℕ) → x < 2 ^ 32 → y < 2 ^ 32 → greaterOf x y flag ≡ Single (truthOf (ltZ (signed y) (signed x))) flag
-greater-means x y flag hx hy = less-means y x hy hx flag
-
-pub zero-less-means : (x flag : ℕ) → x < 2 ^ 32 → zeroLessOf x flag .value ≡ truthOf (ltZ (signed x) (pos 0))
-zero-less-means x flag hx = ap truthOf (order x 0 hx (omega arith))
-
-pub zero-greater-means : (x flag : ℕ) → x < 2 ^ 32 → zeroGreaterOf x flag .value ≡ truthOf (ltZ (pos 0) (signed x))
-zero-greater-means x flag hx = ap truthOf (order 0 x (omega arith) hx)

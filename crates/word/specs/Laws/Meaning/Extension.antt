@@ -1,5 +1,4 @@
 -- 2/ is the floor of half the integer; XBYTE and XWORD keep the integer that the low bits hold.
--- Assumes nothing.
 use mathlib.Core.Path.{_≡_, sym, ap, _∙_}
 use mathlib.Core.Bool.{true, false}
 use Prim.Native.Nat.{ℕ, _+_, _-_, _*_, _/_, _^_, _%_, _≤_, _<_}
@@ -7,7 +6,8 @@ use native.Mathlib.Omega.{arith}
 use lib.IntN.{ℤ, pos, negℤ, _+ℤ_, _*ℤ_}
 use Rattle.word.specs.Shifts.{halveOf, extendByteOf, extendWordOf}
 use Rattle.word.specs.Laws.Tests.{either-order}
-use Rattle.word.specs.Meaning.Integers.{signed, signedAt, signed-low, signed-high, times, less-size}
+use Rattle.word.specs.Integers.{signed, signedAt}
+use Rattle.word.specs.Laws.Integers.{signed-low, signed-high, times, less-size}
 
 -- twice the half, and the bit that was dropped, are the whole
 pub halve-means : (x flag : ℕ) → x < 2 ^ 32 → signed x ≡ pos 2 *ℤ signed (halveOf x flag .value) +ℤ pos (x % 2)

@@ -1,5 +1,4 @@
--- AND, OR, XOR, INVERT, LSL and LSR bit by bit: bit k of x is x / 2 ^ k % 2.
--- Assumes nothing.
+-- AND, OR, XOR, INVERT, LSL and LSR bit by bit.
 use mathlib.Core.Path.{_≡_, refl, sym, ap, _∙_}
 use Prim.Native.Nat.{ℕ, zero, suc, _+_, _-_, _*_, _/_, _^_, _%_, _<_, min, max}
 use native.Mathlib.Nat.{mod-lt, add-mul}
@@ -7,24 +6,31 @@ use native.Mathlib.Omega.{arith}
 use lib.Arith.{digits-div}
 use lib.Bits.{bitAnd, bitOr, bitXor, differ, and-shr, or-shr, xor-shr, and-step, or-step, xor-step}
 use lib.Pow.{pow-pos, pow-add, split, field, mod-mod-pow, shr-shr, shr-lt, shl-shr}
-use Rattle.word.specs.Bits.{andBitsOf, orBitsOf, invertOf, xorBitsOf}
+use Rattle.word.specs.Bits.{bitAt, andBitsOf, orBitsOf, invertOf, xorBitsOf}
 use Rattle.word.specs.Shifts.{shiftLeftOf, shiftRightOf}
 use Rattle.word.specs.declared.Outcome.the-variants.{Single}
 
-abbrev pub bitAt : ℕ → ℕ → ℕ
-bitAt k x = x / 2 ^ k % 2
+-- what takes two numbers bit by bit, from the least up: each bit of the result is made of the bits at its place
+bitwise : (made bit : ℕ → ℕ → ℕ) →
+    ((a b k : ℕ) → made a b / 2 ^ k ≡ made (a / 2 ^ k) (b / 2 ^ k)) →
+    ((a b : ℕ) → made a b ≡ made (a / 2) (b / 2) * 2 + bit (a % 2) (b % 2)) →
+    ((a b : ℕ) → bit (a % 2) (b % 2) < 2) →
+    (x y k : ℕ) → bitAt k (made x y) ≡ bit (bitAt k x) (bitAt k y)
+bitwise made bit shifted step small x y k =
+    let a = x / 2 ^ k in
+    let b = y / 2 ^ k in
+    ap (λ (n : ℕ). n % 2) (shifted x y k) ∙ last-bit (made a b) (made (a / 2) (b / 2)) (bit (a % 2) (b % 2)) (small a b) (step a b)
+  where
+    last-bit : (n q r : ℕ) → r < 2 → n ≡ q * 2 + r → n % 2 ≡ r
+    last-bit n q r h e = omega arith
 
-held : {a b f g : ℕ} → Single a f ≡ Single b g → a ≡ b
-held e = cc
+-- both bits
+pub and-means : (x y flag : ℕ) → (z : ℕ) × (andBitsOf x y flag ≡ Single z flag) × ((k : ℕ) → bitAt k z ≡ min (bitAt k x) (bitAt k y))
+and-means x y flag = (bitAnd x y, refl, bitwise bitAnd min and-shr and-step (λ a b. omega arith) x y)
 
-last-bit : (n q b : ℕ) → b < 2 → n ≡ q * 2 + b → n % 2 ≡ b
-last-bit n q b h e = omega arith
-
-min-below : (a b : ℕ) → a < 2 → b < 2 → min a b < 2
-min-below a b ha hb = omega arith
-
-max-below : (a b : ℕ) → a < 2 → b < 2 → max a b < 2
-max-below a b ha hb = omega arith
+-- either bit
+pub or-means : (x y flag : ℕ) → (z : ℕ) × (orBitsOf x y flag ≡ Single z flag) × ((k : ℕ) → bitAt k z ≡ max (bitAt k x) (bitAt k y))
+or-means x y flag = (bitOr x y, refl, bitwise bitOr max or-shr or-step (λ a b. omega arith) x y)
 
 -- of two bits, whether they differ is their sum without its carry
 differs : (m n : ℕ) → m < 2 → n < 2 → differ m n ≡ (m + n) % 2
@@ -36,40 +42,12 @@ differs (suc (suc m)) n hm hn = absurd (omega arith)
 differs zero (suc (suc n)) hm hn = absurd (omega arith)
 differs (suc zero) (suc (suc n)) hm hn = absurd (omega arith)
 
-parity : (n : ℕ) → n % 2 < 2
-parity n = omega arith
-
--- both bits
-and-bit : (k x y : ℕ) → bitAt k (bitAnd x y) ≡ min (bitAt k x) (bitAt k y)
-and-bit k x y =
-    let a = x / 2 ^ k in
-    let b = y / 2 ^ k in
-    ap (λ (n : ℕ). n % 2) (and-shr x y k) ∙ last-bit (bitAnd a b) (bitAnd (a / 2) (b / 2)) (min (a % 2) (b % 2)) (min-below (a % 2) (b % 2) (parity a) (parity b)) (and-step a b)
-
-pub and-means : (k x y flag z : ℕ) → andBitsOf x y flag ≡ Single z flag → bitAt k z ≡ min (bitAt k x) (bitAt k y)
-and-means k x y flag z e = ap (bitAt k) (sym (held e)) ∙ and-bit k x y
-
--- either bit
-or-bit : (k x y : ℕ) → bitAt k (bitOr x y) ≡ max (bitAt k x) (bitAt k y)
-or-bit k x y =
-    let a = x / 2 ^ k in
-    let b = y / 2 ^ k in
-    ap (λ (n : ℕ). n % 2) (or-shr x y k) ∙ last-bit (bitOr a b) (bitOr (a / 2) (b / 2)) (max (a % 2) (b % 2)) (max-below (a % 2) (b % 2) (parity a) (parity b)) (or-step a b)
-
-pub or-means : (k x y flag z : ℕ) → orBitsOf x y flag ≡ Single z flag → bitAt k z ≡ max (bitAt k x) (bitAt k y)
-or-means k x y flag z e = ap (bitAt k) (sym (held e)) ∙ or-bit k x y
+xor-by-sums : (a b : ℕ) → bitXor a b ≡ bitXor (a / 2) (b / 2) * 2 + (a % 2 + b % 2) % 2
+xor-by-sums a b = xor-step a b ∙ ap (λ (n : ℕ). bitXor (a / 2) (b / 2) * 2 + n) (differs (a % 2) (b % 2) (omega arith) (omega arith))
 
 -- one bit and not the other: the sum of the two bits without its carry
-xor-bit : (k x y : ℕ) → bitAt k (bitXor x y) ≡ (bitAt k x + bitAt k y) % 2
-xor-bit k x y =
-    let a = x / 2 ^ k in
-    let b = y / 2 ^ k in
-    ap (λ (n : ℕ). n % 2) (xor-shr x y k)
-    ∙ last-bit (bitXor a b) (bitXor (a / 2) (b / 2)) ((a % 2 + b % 2) % 2) (parity (a % 2 + b % 2))
-    (xor-step a b ∙ ap (λ (n : ℕ). bitXor (a / 2) (b / 2) * 2 + n) (differs (a % 2) (b % 2) (parity a) (parity b)))
-
-pub xor-means : (k x y flag z : ℕ) → xorBitsOf x y flag ≡ Single z flag → bitAt k z ≡ (bitAt k x + bitAt k y) % 2
-xor-means k x y flag z e = ap (bitAt k) (sym (held e)) ∙ xor-bit k x y
+pub xor-means : (x y flag : ℕ) → (z : ℕ) × (xorBitsOf x y flag ≡ Single z flag) × ((k : ℕ) → bitAt k z ≡ (bitAt k x + bitAt k y) % 2)
+xor-means x y flag = (bitXor x y, refl, bitwise bitXor (λ m n. (m + n) % 2) xor-shr xor-by-sums (λ a b. omega arith) x y)
 
 -- the bits above place k of an inverted cell
 inverted-high : (j k x : ℕ) → 1 + j + k ≡ 32 → x < 2 ^ 32 → (2 ^ 32 - 1 - x) / 2 ^ k ≡ 2 ^ (1 + j) - 1 - x / 2 ^ k

@@ -1,30 +1,29 @@
 -- DIVU and DIVS divide: the dividend is the divisor times the quotient, and the remainder, which is smaller than the divisor.
--- Assumes nothing.
+-- The remainder of DIVS has the dividend's sign, so that its quotient is cut toward zero.
 use mathlib.Core.Path.{_≡_, refl, sym, ap, ap₂, subst₂, _∙_}
 use mathlib.Core.Bool.{Bool, true, false}
 use Prim.Native.Nat.{ℕ, _+_, _-_, _*_, _/_, _^_, _%_, _≤_, _<_}
 use native.Mathlib.Nat.{div-add-mod, mod-lt, div-le-self, div-mul-le-self, mul-le-mul-left, le-trans, le-of-lt, lt-of-lt-of-le}
 use native.Mathlib.Omega.{arith}
+use lib.Dec.{eqb}
 use lib.IntN.{ℤ, _+ℤ_, _*ℤ_, natAbs}
 use borrow.Author.Tests.{ne-eqb, leb-true, leb-false}
 use Rattle.word.specs.Quotients.{unlessZero, isNegative, magnitudeOf, withSign, apart, divideSignedOf, divideUnsignedOf}
 use Rattle.word.specs.Laws.Tests.{either-order}
-use Rattle.word.specs.Meaning.Integers.{signed, signedBy, times, plus}
-use Rattle.word.specs.Meaning.Magnitude.{magnitude-le, magnitude-positive, signed-size, signed-again, size-of}
+use Rattle.word.specs.Integers.{signed, signedBy}
+use Rattle.word.specs.Laws.Integers.{times, plus}
+use Rattle.word.specs.Laws.Magnitude.{magnitude-le, magnitude-positive, signed-size, signed-again, size-of}
+use Rattle.word.specs.declared.Outcome.{Outcome}
 use Rattle.word.specs.declared.Outcome.the-variants.{Double, DivisorZero}
 
-pub divide-unsigned-means : (x y flag r q : ℕ) → (y ≡ 0 → ⊥) → divideUnsignedOf x y flag ≡ Double r q flag → (x ≡ y * q + r) × (r < y)
-divide-unsigned-means x y flag r q some e =
-    let f : Double (x % y) (x / y) flag ≡ Double r q flag = sym (ap (λ (t : Bool). unlessZero t (Double (x % y) (x / y) flag)) (ne-eqb y 0 some)) ∙ e in
-    let a : x % y ≡ r = cc in
-    let b : x / y ≡ q = cc in
-    (rw (← a, ← b) (sym (div-add-mod x y)), rw (← a) (mod-lt x (omega arith)))
+-- a divisor that is not zero lets the division be
+divides : (y : ℕ) → (y ≡ 0 → ⊥) → (divided : Outcome) → unlessZero (eqb y 0) divided ≡ divided
+divides y some divided = ap (λ (t : Bool). unlessZero t divided) (ne-eqb y 0 some)
 
--- the quotient q and the remainder r of two cells, as integers
-pub record Divided (x y r q : ℕ) : Type 0 where
-  pub whole : signed x ≡ signed y *ℤ signed q +ℤ signed r
-  pub smaller : natAbs (signed r) < natAbs (signed y)
-  pub sign : signed r ≡ signedBy (isNegative x) (natAbs (signed r))
+pub divide-unsigned-means : (x y flag : ℕ) → (y ≡ 0 → ⊥) →
+    (r q : ℕ) × (divideUnsignedOf x y flag ≡ Double r q flag) × (x ≡ y * q + r) × (r < y)
+divide-unsigned-means x y flag some =
+    (x % y, x / y, divides y some (Double (x % y) (x / y) flag), sym (div-add-mod x y), mod-lt x (omega arith))
 
 twice-apart : (s t : Bool) → apart t (apart s t) ≡ s
 twice-apart true true = refl
@@ -71,34 +70,32 @@ module _ (x y : ℕ) (hx : x < 2 ^ 32) (hy : y < 2 ^ 32) (some : y ≡ 0 → ⊥
       let h : magnitudeOf x % magnitudeOf y < 2 ^ 31 = lt-of-lt-of-le below (magnitude-le y hy) in
       signed-again (isNegative x) (magnitudeOf x % magnitudeOf y) (le-of-lt h) (λ e. h)
 
-  divided : Divided x y (withSign (isNegative x) (magnitudeOf x % magnitudeOf y)) (withSign (apart (isNegative x) (isNegative y)) (magnitudeOf x / magnitudeOf y))
-  divided =
+  pub divide-signed-means : (flag : ℕ) →
+      (r q : ℕ) × (divideSignedOf x y flag ≡ Double r q flag)
+      × (signed x ≡ signed y *ℤ signed q +ℤ signed r)
+      × (natAbs (signed r) < natAbs (signed y))
+      × (signed r ≡ signedBy (isNegative x) (natAbs (signed r)))
+  divide-signed-means flag =
       let s = isNegative x in
       let t = isNegative y in
       let m = magnitudeOf x in
       let n = magnitudeOf y in
-      let size : natAbs (signed (withSign s (m % n))) ≡ m % n = ap natAbs remainder ∙ size-of s (m % n) in
-      let over : natAbs (signed y) ≡ n = ap natAbs (signed-size y hy) ∙ size-of t n in
-      record {
-        whole =
-            signed-size x hx
+      let r = withSign s (m % n) in
+      let q = withSign (apart s t) (m / n) in
+      let size : natAbs (signed r) ≡ m % n = ap natAbs remainder ∙ size-of s (m % n) in
+      let over : natAbs (signed y) ≡ n = ap natAbs (signed-size y hy) ∙ size-of t n in (
+        r,
+        q,
+        divides y some (Double r q flag),
+        signed-size x hx
             ∙ ap (signedBy s) (sym (div-add-mod m n))
             ∙ sym (plus s (n * (m / n)) (m % n))
             ∙ ap (λ (u : Bool). signedBy u (n * (m / n)) +ℤ signedBy s (m % n)) (sym (twice-apart s t))
             ∙ ap (λ (z : ℤ). z +ℤ signedBy s (m % n)) (sym (times t (apart s t) n (m / n)))
-            ∙ sym (ap₂ (λ (u v : ℤ). u *ℤ signed (withSign (apart s t) (m / n)) +ℤ v) (signed-size y hy) remainder ∙ ap (λ (u : ℤ). signedBy t n *ℤ u +ℤ signedBy s (m % n)) quotient);
-        smaller = subst₂ (λ (u v : ℕ). u < v) (sym size) (sym over) below;
-        sign = remainder ∙ ap (signedBy s) (sym size);
-      }
-
-  pub divide-signed-means : (flag r q : ℕ) → divideSignedOf x y flag ≡ Double r q flag → Divided x y r q
-  divide-signed-means flag r q e =
-      let r₀ = withSign (isNegative x) (magnitudeOf x % magnitudeOf y) in
-      let q₀ = withSign (apart (isNegative x) (isNegative y)) (magnitudeOf x / magnitudeOf y) in
-      let f : Double r₀ q₀ flag ≡ Double r q flag = sym (ap (λ (t : Bool). unlessZero t (Double r₀ q₀ flag)) (ne-eqb y 0 some)) ∙ e in
-      let a : r₀ ≡ r = cc in
-      let b : q₀ ≡ q = cc in
-      subst₂ (λ (u v : ℕ). Divided x y u v) a b divided
+            ∙ sym (ap₂ (λ (u v : ℤ). u *ℤ signed q +ℤ v) (signed-size y hy) remainder ∙ ap (λ (u : ℤ). signedBy t n *ℤ u +ℤ signedBy s (m % n)) quotient),
+        subst₂ (λ (u v : ℕ). u < v) (sym size) (sym over) below,
+        remainder ∙ ap (signedBy s) (sym size),
+      )
 
 -- the one quotient that no cell holds, 2 ^ 31, wraps
 pub divide-signed-wraps : (flag : ℕ) → divideSignedOf (2 ^ 31) (2 ^ 32 - 1) flag ≡ Double 0 (2 ^ 31) flag

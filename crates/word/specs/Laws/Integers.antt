@@ -1,27 +1,14 @@
 -- Cells as integers, and integers as a sign and a size.
--- Assumes nothing.
 use mathlib.Core.Path.{_≡_, refl, sym, ap, _∙_}
 use mathlib.Core.Bool.{Bool, true, false, cond}
-use Prim.Native.Nat.{ℕ, zero, suc, _+_, _-_, _*_, _^_, _%_, _≤_, _<_}
+use Prim.Native.Nat.{ℕ, zero, suc, _+_, _-_, _*_, _%_, _≤_, _<_}
 use native.Mathlib.Nat.{mul-zero, zero-mul, mod-self, mod-eq-of-lt}
 use native.Mathlib.Omega.{arith}
-use lib.Dec.{ltb}
-use lib.IntN.{ℤ, pos, negsuc, negℤ, subℕ, _+ℤ_, _-ℤ_, _*ℤ_, negℤ-+ℤ, +ℤ-comm}
+use lib.IntN.{pos, negsuc, negℤ, subℕ, _+ℤ_, _-ℤ_, _*ℤ_, negℤ-+ℤ, +ℤ-comm}
 use borrow.Author.Tests.{lt-ltb, le-ltb}
+use Rattle.word.specs.Integers.{signedAt, signedBy}
 use Rattle.word.specs.Quotients.{apart}
 use Rattle.word.specs.Laws.Tests.{either-order}
-
--- a number of a range whose upper half stands for the negative ones: x, or x less the range
-abbrev pub signedAt : ℕ → ℕ → ℤ
-signedAt half x = cond (ltb x half) (pos x) (pos x -ℤ pos (half + half))
-
--- the integer that a cell holds
-abbrev pub signed : ℕ → ℤ
-signed x = signedAt (2 ^ 31) x
-
-abbrev pub signedBy : Bool → ℕ → ℤ
-signedBy true size = negℤ (pos size)
-signedBy false size = pos size
 
 -- a size taken from zero in a range, or as it is
 abbrev pub heldAt : ℕ → Bool → ℕ → ℕ

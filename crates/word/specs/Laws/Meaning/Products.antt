@@ -1,5 +1,4 @@
 -- MULTU leaves the product; MULTS leaves the product of the integers, as a number of 64 bits in two's complement.
--- Assumes nothing.
 use mathlib.Core.Path.{_≡_, refl, sym, ap, ap₂, _∙_}
 use mathlib.Core.Bool.{Bool, true, false}
 use Prim.Native.Nat.{ℕ, _+_, _-_, _*_, _/_, _^_, _%_, _≤_, _<_}
@@ -9,15 +8,16 @@ use lib.IntN.{ℤ, _*ℤ_}
 use borrow.Author.Tests.{leb-true, leb-false}
 use Rattle.word.specs.Products.{wide, multiplySignedOf, multiplyUnsignedOf}
 use Rattle.word.specs.Quotients.{isNegative, magnitudeOf, withSign, apart}
-use Rattle.word.specs.Meaning.Integers.{signed, signedAt, heldAt, times, read-back}
-use Rattle.word.specs.Meaning.Magnitude.{signed-size, magnitude-le}
+use Rattle.word.specs.Integers.{signed, signedAt}
+use Rattle.word.specs.Laws.Integers.{heldAt, times, read-back}
+use Rattle.word.specs.Laws.Bounds.{product-below}
+use Rattle.word.specs.Laws.Magnitude.{signed-size, magnitude-le}
 use Rattle.word.specs.declared.Outcome.the-variants.{Double}
 
-pub multiply-unsigned-means : (x y flag low high : ℕ) → multiplyUnsignedOf x y flag ≡ Double low high flag → low + high * 2 ^ 32 ≡ x * y
-multiply-unsigned-means x y flag low high e =
-    let a : x * y % 2 ^ 32 ≡ low = cc in
-    let b : x * y / 2 ^ 32 ≡ high = cc in
-    omega arith
+pub multiply-unsigned-means : (x y flag : ℕ) → x < 2 ^ 32 → y < 2 ^ 32 →
+    (low high : ℕ) × (multiplyUnsignedOf x y flag ≡ Double low high flag) × (low < 2 ^ 32) × (high < 2 ^ 32) × (low + high * 2 ^ 32 ≡ x * y)
+multiply-unsigned-means x y flag hx hy =
+    (x * y % 2 ^ 32, x * y / 2 ^ 32, refl, omega arith, omega (arith, product-below hx hy), omega arith)
 
 -- a factor taken from 2 ^ 64 takes the product from it too
 one-turned : (m n k : ℕ) → k + m ≡ 2 ^ 64 → m * n ≤ 2 ^ 62 → k * n % 2 ^ 64 ≡ (2 ^ 64 - m * n) % 2 ^ 64
@@ -60,12 +60,18 @@ module _ (x y : ℕ) (hx : x < 2 ^ 32) (hy : y < 2 ^ 32) where
       within : (n : ℕ) → n ≤ 2 ^ 62 → n % 2 ^ 64 ≡ n
       within n h = omega arith
 
-  pub multiply-signed-means : (flag low high : ℕ) → multiplySignedOf x y flag ≡ Double low high flag → signedAt (2 ^ 63) (low + high * 2 ^ 32) ≡ signed x *ℤ signed y
-  multiply-signed-means flag low high e =
+  pub multiply-signed-means : (flag : ℕ) →
+      (low high : ℕ) × (multiplySignedOf x y flag ≡ Double low high flag) × (low < 2 ^ 32) × (high < 2 ^ 32)
+      × (signedAt (2 ^ 63) (low + high * 2 ^ 32) ≡ signed x *ℤ signed y)
+  multiply-signed-means flag =
       let w = wide x * wide y % 2 ^ 64 in
-      let a : w % 2 ^ 32 ≡ low = cc in
-      let b : w / 2 ^ 32 ≡ high = cc in
-      let whole : low + high * 2 ^ 32 ≡ w = omega arith in
-      ap (signedAt (2 ^ 63)) (whole ∙ product (isNegative x) (isNegative y) refl refl sizes)
-      ∙ read-back (2 ^ 63) (apart (isNegative x) (isNegative y)) (magnitudeOf x * magnitudeOf y) (omega arith) (omega (arith, sizes)) (λ f. omega (arith, sizes))
-      ∙ sym (ap₂ (λ (u v : ℤ). u *ℤ v) (signed-size x hx) (signed-size y hy) ∙ times (isNegative x) (isNegative y) (magnitudeOf x) (magnitudeOf y))
+      let whole : w % 2 ^ 32 + w / 2 ^ 32 * 2 ^ 32 ≡ w = omega arith in (
+        w % 2 ^ 32,
+        w / 2 ^ 32,
+        refl,
+        omega arith,
+        omega arith,
+        ap (signedAt (2 ^ 63)) (whole ∙ product (isNegative x) (isNegative y) refl refl sizes)
+            ∙ read-back (2 ^ 63) (apart (isNegative x) (isNegative y)) (magnitudeOf x * magnitudeOf y) (omega arith) (omega (arith, sizes)) (λ f. omega (arith, sizes))
+            ∙ sym (ap₂ (λ (u v : ℤ). u *ℤ v) (signed-size x hx) (signed-size y hy) ∙ times (isNegative x) (isNegative y) (magnitudeOf x) (magnitudeOf y)),
+      )

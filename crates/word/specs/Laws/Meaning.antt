@@ -1,7 +1,4 @@
-pub mod Integers
-pub mod Magnitude
 pub mod Sums
-pub mod Order
 pub mod Bits
 pub mod Extension
 pub mod Products
