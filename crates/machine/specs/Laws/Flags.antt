@@ -1,63 +1,75 @@
--- The flag stays 0 or 1, whatever numbers the cells hold.
+-- A row leaves the flag as it was, unless its arithmetic moves it.
+use mathlib.Core.Path.{_≡_, refl}
 use mathlib.Core.Bool.{Bool, true, false}
-use Prim.Native.Nat.{ℕ, _+_, _^_, _≤_}
-use lib.Dec.{ltb, leb, eqb, lit≤}
-use Rattle.word.specs.Truth.{bitOf}
-use Rattle.word.specs.Quotients.{unlessZero}
-use Rattle.word.specs.Dispatch.{oneCellOf, twoCellsOf}
+use mathlib.Core.List.{List, [], List·Memᴰ}
+use Prim.Native.Nat.{ℕ}
+use lib.Dec.{eqb}
+use Rattle.plain.specs.Choice.{pick}
+use Rattle.word.specs.Flag.{oneMovers, twoMovers}
+use Rattle.word.specs.Dispatch.{twoCellsOf}
+use Rattle.word.specs.Laws.Flag.{OfFlag, one-leaves, two-leaves}
 use Rattle.word.specs.declared.Outcome.{Outcome}
 use Rattle.word.specs.declared.Outcome.the-variants.{Single, Double, DivisorZero}
-use Rattle.word.specs.declared.OneCell.{OneCell}
-use Rattle.word.specs.declared.OneCell.the-variants.{Negate, Increment, Decrement, Halve, ZeroEqual, ZeroUnequal, ZeroLess, ZeroGreater, Invert, ShiftLeft, ShiftRight, ExtendByte, ExtendWord}
-use Rattle.word.specs.declared.TwoCells.{TwoCells}
-use Rattle.word.specs.declared.TwoCells.the-variants.{Plus, Minus, AddExtended, SubtractExtended, Equal, Unequal, Less, Greater, Below, Above, AndBits, OrBits, XorBits, MultiplySigned, MultiplyUnsigned, DivideSigned, DivideUnsigned}
+use Rattle.machine.specs.Codes.{Link, >R, R-AT, R>, CATCH, RESETSP, THROW, JSL, JSR, EXIT, Op, SHUFFLE, JUMP, LINK, ONE, TWO, FETCH, STORE, LITERAL}
+use Rattle.machine.specs.Memory.{placeOf}
+use Rattle.machine.specs.Fetch.{Instruction}
+use Rattle.machine.specs.Rows.{top, second, cells, throwRow, rowOf, linkRow, twoRow, fetchRow, storeRow}
+use Rattle.machine.specs.declared.Machine.{Machine}
+use Rattle.machine.specs.declared.Width.{Width}
+use Rattle.machine.specs.declared.Place.{Place}
+use Rattle.machine.specs.declared.Place.the-variants.{Memory, Local, Cell, Nowhere}
 
-bit-le : (holds : Bool) → bitOf holds ≤ 1
-bit-le true = lit≤ tt
-bit-le false = lit≤ tt
+-- the instructions that move the flag
+abbrev pub MovesFlag : Op → Type 0
+MovesFlag (SHUFFLE o) = ⊥
+MovesFlag (JUMP o) = ⊥
+MovesFlag (LINK o) = ⊥
+MovesFlag (ONE o) = List·Memᴰ o oneMovers
+MovesFlag (TWO o) = List·Memᴰ o twoMovers
+MovesFlag (FETCH w) = ⊥
+MovesFlag (STORE w) = ⊥
+MovesFlag LITERAL = ⊥
 
-pub one-flag : (op : OneCell) (x flag : ℕ) → flag ≤ 1 → oneCellOf op x flag .flag ≤ 1
-unfolding oneCellOf
-one-flag Negate x flag h = bit-le (ltb 0 x)
-one-flag Increment x flag h = bit-le (leb (2 ^ 32) (x + 1))
-one-flag Decrement x flag h = bit-le (ltb x 1)
-one-flag Halve x flag h = h
-one-flag ZeroEqual x flag h = h
-one-flag ZeroUnequal x flag h = h
-one-flag ZeroLess x flag h = h
-one-flag ZeroGreater x flag h = h
-one-flag Invert x flag h = h
-one-flag ShiftLeft x flag h = h
-one-flag ShiftRight x flag h = h
-one-flag ExtendByte x flag h = h
-one-flag ExtendWord x flag h = h
+module _ (i : Instruction) (mem : List ℕ) (m : Machine) where
+  throw-flag : (b : Bool) → pick b (cells i mem m []) (throwRow i mem m) .flag ≡ m .flag
+  throw-flag true = refl
+  throw-flag false = refl
 
--- the flag of an outcome, if it has one
-abbrev pub FlagFits : Outcome → Type 0
-FlagFits (Single value flag) = flag ≤ 1
-FlagFits (Double lower upper flag) = flag ≤ 1
-FlagFits DivisorZero = Unit {0}
+  link-flag : (o : Link) → linkRow i mem m o .flag ≡ m .flag
+  link-flag >R = refl
+  link-flag R-AT = refl
+  link-flag R> = refl
+  link-flag CATCH = refl
+  link-flag RESETSP = refl
+  link-flag THROW = throw-flag (eqb (top m) 0)
+  link-flag JSL = refl
+  link-flag JSR = refl
+  link-flag EXIT = refl
 
-unless-zero : (zero : Bool) (divided : Outcome) → FlagFits divided → FlagFits (unlessZero zero divided)
-unless-zero true divided h = tt
-unless-zero false divided h = h
+  two-flag : (o : Outcome) → OfFlag (λ f. f ≡ m .flag) o → twoRow i mem m o .flag ≡ m .flag
+  two-flag (Single value flag) h = h
+  two-flag (Double lower upper flag) h = h
+  two-flag DivisorZero h = refl
 
-pub two-flag : (op : TwoCells) (x y flag : ℕ) → flag ≤ 1 → FlagFits (twoCellsOf op x y flag)
-unfolding twoCellsOf
-two-flag Plus x y flag h = bit-le (leb (2 ^ 32) (x + y))
-two-flag Minus x y flag h = bit-le (ltb x y)
-two-flag AddExtended x y flag h = bit-le (leb (2 ^ 32) (x + y + flag))
-two-flag SubtractExtended x y flag h = bit-le (ltb x (y + flag))
-two-flag Equal x y flag h = h
-two-flag Unequal x y flag h = h
-two-flag Less x y flag h = h
-two-flag Greater x y flag h = h
-two-flag Below x y flag h = h
-two-flag Above x y flag h = h
-two-flag AndBits x y flag h = h
-two-flag OrBits x y flag h = h
-two-flag XorBits x y flag h = h
-two-flag MultiplySigned x y flag h = h
-two-flag MultiplyUnsigned x y flag h = h
-two-flag DivideSigned x y flag h = unless-zero (eqb y 0) _ h
-two-flag DivideUnsigned x y flag h = unless-zero (eqb y 0) _ h
+  fetch-flag : (w : Width) (place : Place) → fetchRow i mem m w place .flag ≡ m .flag
+  fetch-flag w (Memory a) = refl
+  fetch-flag w (Local k) = refl
+  fetch-flag w (Cell k) = refl
+  fetch-flag w Nowhere = refl
+
+  store-flag : (w : Width) (place : Place) → storeRow i mem m w place .flag ≡ m .flag
+  store-flag w (Memory a) = refl
+  store-flag w (Local k) = refl
+  store-flag w (Cell k) = refl
+  store-flag w Nowhere = refl
+
+  pub row-flag : (op : Op) → (MovesFlag op → ⊥) → rowOf i mem m op .flag ≡ m .flag
+  unfolding rowOf
+  row-flag (SHUFFLE o) other = refl
+  row-flag (JUMP o) other = refl
+  row-flag (LINK o) other = link-flag o
+  row-flag (ONE o) other = one-leaves o (top m) (m .flag) other
+  row-flag (TWO o) other = two-flag (twoCellsOf o (second m) (top m) (m .flag)) (two-leaves o (second m) (top m) (m .flag) other)
+  row-flag (FETCH w) other = fetch-flag w (placeOf w (top m))
+  row-flag (STORE w) other = store-flag w (placeOf w (top m))
+  row-flag LITERAL other = refl

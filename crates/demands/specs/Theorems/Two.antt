@@ -5,24 +5,29 @@ use mathlib.Core.List.{List, [], _∷_, map}
 use Prim.Native.Nat.{ℕ, zero, suc, _+_, _≤_, _<_}
 use native.Mathlib.Omega.{arith}
 use lib.ListN.{getD}
+use Rattle.machine.specs.Limits.{mostBudget}
+use Rattle.machine.specs.State.{Whole}
 use Rattle.machine.specs.Codes.{cycleTable}
 use Rattle.machine.specs.Fetch.{instructionAt}
 use Rattle.machine.specs.Rows.{top}
 use Rattle.machine.specs.Checks.{Test}
-use Rattle.machine.specs.Step.{Stepped, refused, done, put, costOf, stepOf}
-use Rattle.machine.specs.Run.{After, ended, runFrom, runOf, acceptable}
-use Rattle.machine.specs.Laws.Passed.{step-done, rowAt}
-use Rattle.machine.specs.Laws.Costs.{Counted, counted, cycle-at, cycle-branch}
+use Rattle.machine.specs.Step.{Stepped, refused, done, put, costOf, rowAt, testsAt, stepOf}
+use Rattle.machine.specs.Run.{After, ended, runFrom, runOf, acceptable, Counted}
+use Rattle.machine.specs.Laws.Passed.{step-done}
+use Rattle.machine.specs.Laws.Costs.{counted, cycle-at, cycle-branch}
 use Rattle.machine.specs.Laws.Prices.{by-code, zero-thrown}
-use Rattle.machine.specs.Laws.Kept.{Whole, step-kept}
+use Rattle.machine.specs.Laws.Kept.{step-kept}
 use Rattle.machine.specs.declared.Machine.{Machine}
 use Rattle.demands.specs.History.{World, world, codeAt, costAt}
-use Rattle.demands.specs.Runs.{Course, course}
-use Rattle.demands.specs.Lowest.{Applies, Lowest, none-applies}
-use Rattle.demands.specs.Refused.{testsAt, refused-lowest}
-use Rattle.demands.specs.Carried.{unrefused}
-use Rattle.demands.specs.Handed.{taken, accept}
-use Rattle.demands.specs.Added.{added, counted-on}
+use Rattle.demands.specs.Course.{Course}
+use Rattle.demands.specs.Laws.Course.{course}
+use Rattle.demands.specs.Added.{added}
+use Rattle.demands.specs.Lowest.{Applies, First, Lowest}
+use Rattle.demands.specs.Laws.Lowest.{none-applies}
+use Rattle.demands.specs.Laws.Refused.{refused-first, refused-lowest}
+use Rattle.demands.specs.Laws.Carried.{unrefused}
+use Rattle.demands.specs.Laws.Accepted.{taken, accept}
+use Rattle.demands.specs.Laws.Added.{counted-on}
 
 -- A run of acceptable input starts with nothing counted; any other input is answered 2.
 pub starts : (mem : List ℕ) (m : Machine) (budget : ℕ) → acceptable mem m budget ≡ true → runOf mem m budget ≡ runFrom budget mem m 0 0
@@ -65,7 +70,7 @@ pub run-goes-on : (mem : List ℕ) (m : Machine) (budget : ℕ) (mem′ : List �
 run-goes-on mem m budget mem′ m′ k whole ok e =
     let t = taken mem m (suc budget) ok in
     let g = step-kept mem m mem′ m′ k whole (t .formed) e in
-    let within : budget ≤ 1000000 = omega (arith, t .budget-within) in
+    let within : budget ≤ mostBudget = omega (arith, t .budget-within) in
     let ok′ = accept mem′ m′ budget (record { long = g .same-length ∙ t .long; budget-within = within; formed = g .formed }) in
     let z : 0 + k ≡ k = omega arith in
     starts mem m (suc budget) ok ∙
@@ -104,7 +109,11 @@ pub in-order : (mem : List ℕ) (m : Machine) →
     map (λ (t : Test). t .number) (testsAt mem m) ≡ 0 ∷ 3 ∷ 4 ∷ 5 ∷ 6 ∷ 7 ∷ 8 ∷ 9 ∷ 10 ∷ 11 ∷ 12 ∷ 13 ∷ []
 in-order mem m = refl
 
--- A step is refused with the lowest number that applies, and carried out exactly where none applies. This rules out a machine that
+-- A step is refused with the number of the first test that holds.
+pub first-given : (mem : List ℕ) (m : Machine) (k : ℕ) → stepOf mem m ≡ refused k → First k (testsAt mem m)
+first-given mem m k e = refused-first mem m k e
+
+-- That is the lowest number that applies, and a step is carried out exactly where none applies. This rules out a machine that
 -- refuses at will, or that carries out what should be refused.
 pub lowest-given : (mem : List ℕ) (m : Machine) (k : ℕ) → stepOf mem m ≡ refused k → Lowest k (testsAt mem m)
 lowest-given mem m k e = refused-lowest mem m k e

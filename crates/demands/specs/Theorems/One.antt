@@ -8,11 +8,12 @@ use borrow.Author.Tests.{eqb-true}
 use lib.Dec.{T, leb, eqb, leb→le}
 use Rattle.plain.specs.Choice.{pick, both}
 use Rattle.machine.specs.Run.{After, ended, runFrom, runOf, acceptable}
-use Rattle.machine.specs.Laws.Tables.{both-parts}
+use Rattle.plain.specs.Laws.Choice.{both-parts}
 use Rattle.machine.specs.declared.Machine.{Machine}
 use Rattle.demands.specs.History.{world, stepsIn}
-use Rattle.demands.specs.Runs.{Course, Reason, spent, stopped, course}
-use Rattle.demands.specs.Refused.{listed, refused-listed}
+use Rattle.demands.specs.Course.{Course, Reason, spent, stopped}
+use Rattle.demands.specs.Laws.Course.{course}
+use Rattle.demands.specs.Laws.Refused.{listed, refused-listed}
 
 -- what a run of any memory, machine and budget leaves
 pub record One (mem : List ℕ) (m : Machine) (budget : ℕ) (a : After) : Type 0 where

@@ -4,8 +4,7 @@ use mathlib.Core.Path.{_≡_, ap, sym, _∙_}
 use mathlib.Core.List.{List}
 use Prim.Native.Nat.{ℕ}
 use Rattle.machine.specs.State.{freshMachine}
-use Rattle.machine.specs.Codes.{cyclesOf}
-use Rattle.machine.specs.Run.{After, runOf}
+use Rattle.machine.specs.Run.{After, afterOf, runOf}
 use Rattle.machine.specs.declared.Machine.{Machine}
 use Rattle.machine.specs.declared.Ran.{Ran}
 
@@ -13,15 +12,8 @@ use Rattle.machine.specs.declared.Ran.{Ran}
 pub only-fresh : (a b : Machine) → a ≡ freshMachine → b ≡ freshMachine → a ≡ b
 only-fresh a b h k = h ∙ sym k
 
--- cycles_of
-pub only-cycles : (code a b : ℕ) → a ≡ cyclesOf code → b ≡ cyclesOf code → a ≡ b
-only-cycles code a b h k = h ∙ sym k
-
 -- run: the memory at exit and what it hands back
-abbrev pub after : List ℕ → Ran → After
-after memory ran = record { memory = memory; ran = ran }
-
 pub only-run : (mem : List ℕ) (m : Machine) (budget : ℕ) (memA memB : List ℕ) (a b : Ran) →
-    after memA a ≡ runOf mem m budget → after memB b ≡ runOf mem m budget → (memA ≡ memB) × (a ≡ b)
+    afterOf memA a ≡ runOf mem m budget → afterOf memB b ≡ runOf mem m budget → (memA ≡ memB) × (a ≡ b)
 only-run mem m budget memA memB a b h k =
     (ap (λ (x : After). x .memory) (h ∙ sym k), ap (λ (x : After). x .ran) (h ∙ sym k))

@@ -4,33 +4,21 @@ use mathlib.Core.List.{List}
 use mathlib.Core.Bool.{Bool, true, false}
 use Prim.Native.Nat.{ℕ, zero, suc}
 use lib.Dec.{T, ltb, eqb, ltb→lt}
-use Rattle.plain.specs.Choice.{both}
-use Rattle.machine.specs.Checks.{not}
+use Rattle.plain.specs.Choice.{both, not}
+use Rattle.plain.specs.Laws.Choice.{both-parts}
 use Rattle.machine.specs.Step.{Stepped, refused, done, stepOf}
 use Rattle.machine.specs.Run.{runFrom, runOf, acceptable}
-use Rattle.machine.specs.Laws.Tables.{both-parts}
-use Rattle.demands.specs.History.{World, world, left, codeAt, levels, Moment, step, turn, Ordinary, History, here, then, NoReset, Above}
-use Rattle.demands.specs.Two.{starts, spends, goes-on}
+use Rattle.demands.specs.History.{World, world, left, codeAt, pointerE, Moment, Resets, step, host, History, here, then, Above}
+use Rattle.demands.specs.Walk.{reached, ahead, walk}
+use Rattle.demands.specs.Theorems.Two.{starts, spends, goes-on}
 
--- the step at a world
+-- the step at a world, and whether it is carried out
 abbrev pub stepAt : World → Stepped
 stepAt w = stepOf (w .memory) (w .machine)
 
 abbrev pub isDone : Stepped → Bool
 isDone (refused number) = false
 isDone (done memory machine k) = true
-
--- the world after it
-abbrev pub reached : World → Stepped → World
-reached w (refused number) = w
-reached w (done memory machine k) = world memory machine
-
-abbrev pub ahead : World → World
-ahead w = reached w (stepAt w)
-
-unfoldable pub walk : ℕ → World → World
-walk zero w = w
-walk (suc n) w = walk n (ahead w)
 
 abbrev costOfStep : Stepped → ℕ
 costOfStep (refused number) = 0
@@ -61,48 +49,39 @@ pub run-walks : (n : ℕ) (w : World) → acceptable (w .memory) (w .machine) n 
     left (runOf (w .memory) (w .machine) n) ≡ walk n w
 run-walks n w ok t = ap left (starts (w .memory) (w .machine) n ok) ∙ walk-rest n w 0 0 t
 
--- a step that is no RESETSP
-unfoldable pub plain : World → Bool
-plain w = both (not (eqb (codeAt w) 0x0C)) (isDone (stepAt w))
-
--- n of them, with E above the limit from the first to the last
+-- n steps with E above the limit from the first to the last
 unfoldable pub calm : ℕ → ℕ → World → Bool
-calm limit zero w = ltb limit (levels w)
-calm limit (suc n) w = both (ltb limit (levels w)) (both (plain w) (calm limit n (ahead w)))
+calm limit zero w = ltb limit (pointerE w)
+calm limit (suc n) w = both (ltb limit (pointerE w)) (both (isDone (stepAt w)) (calm limit n (ahead w)))
 
 pub record Walked (limit : ℕ) (w v : World) : Type 0 where
   pub history : History w v
-  pub free : NoReset history
   pub above : Above limit history
 
-other-code : (n : ℕ) → T (not (eqb n 0x0C)) → n ≡ 0x0C → ⊥
-other-code n t is = subst (λ (x : ℕ). T (not (eqb x 0x0C))) is t
+abbrev pub ahead-moment : (w : World) → T (isDone (stepAt w)) → Moment w (ahead w)
+ahead-moment w t = step _ (ahead-step w t)
 
-pub plain-moment : (w : World) → T (plain w) → (m : Moment w (ahead w)) × Ordinary m
-unfolding plain
-plain-moment w t =
-    let p = both-parts (not (eqb (codeAt w) 0x0C)) (isDone (stepAt w)) t in
-    (step _ (ahead-step w (p .1)), other-code (codeAt w) (p .0))
+-- it is no RESETSP
+pub not-reset : (w : World) (t : T (isDone (stepAt w))) → T (not (eqb (codeAt w) 0x0C)) → Resets (ahead-moment w t) → ⊥
+not-reset w t other resets = subst (λ (n : ℕ). T (not (eqb n 0x0C))) resets other
 
 pub walked : (limit n : ℕ) (w : World) → T (calm limit n w) → Walked limit w (walk n w)
 unfolding calm walk
-walked limit zero w t = record { history = here; free = tt; above = ltb→lt limit (levels w) t }
+walked limit zero w t = record { history = here; above = ltb→lt limit (pointerE w) t }
 walked limit (suc n) w t =
-    let p = both-parts (ltb limit (levels w)) _ t in
-    let q = both-parts (plain w) _ (p .1) in
-    let m = plain-moment w (q .0) in
+    let p = both-parts (ltb limit (pointerE w)) _ t in
+    let q = both-parts (isDone (stepAt w)) _ (p .1) in
     let rest = walked limit n (ahead w) (q .1) in
     record {
-      history = then (m .0) (rest .history);
-      free = (m .1, rest .free);
-      above = (ltb→lt limit (levels w) (p .0), rest .above);
+      history = then (ahead-moment w (q .0)) (rest .history);
+      above = (ltb→lt limit (pointerE w) (p .0), rest .above);
     }
 
--- one walk, the host's turn with another memory, and one more walk
-pub host-between : (limit : ℕ) {w u v : World} (memory : List ℕ) (h : History w u) → NoReset h → Above limit h →
+-- one walk, the host's change of memory, and one more walk
+pub host-between : (limit : ℕ) {w u v : World} (memory : List ℕ) (h : History w u) → Above limit h →
     Walked limit (world memory (u .machine)) v → Walked limit w v
-host-between limit memory here free above rest =
-    record { history = then (turn refl) (rest .history); free = (tt, rest .free); above = (above, rest .above) }
-host-between limit memory (then m h) free above rest =
-    let more = host-between limit memory h (free .1) (above .1) rest in
-    record { history = then m (more .history); free = (free .0, more .free); above = (above .0, more .above) }
+host-between limit memory here above rest =
+    record { history = then (host refl) (rest .history); above = (above, rest .above) }
+host-between limit memory (then m h) above rest =
+    let more = host-between limit memory h (above .1) rest in
+    record { history = then m (more .history); above = (above .0, more .above) }

@@ -1,28 +1,14 @@
 -- Every run is a history of completed instructions, and ends for a reason.
 use mathlib.Core.Path.{_≡_, refl}
 use mathlib.Core.List.{List}
-use Prim.Native.Nat.{ℕ, zero, suc, _+_, _<_}
+use Prim.Native.Nat.{ℕ, zero, suc, _+_}
 use native.Mathlib.Omega.{arith}
 use Rattle.machine.specs.Step.{Stepped, refused, done, stepOf}
 use Rattle.machine.specs.Run.{After, ended, runFrom}
 use Rattle.machine.specs.Laws.Passed.{step-done}
 use Rattle.machine.specs.declared.Machine.{Machine}
-use Rattle.demands.specs.History.{World, world, left, History, here, then, step, stepsIn, cyclesIn, Unbroken}
-
--- why a run ends that had so many instructions left in its budget and has now reported so many more steps
-pub data Reason (budget steps : ℕ) (a : After) : Type 0 where
-  -- all of them are completed
-  spent : a .ran .answer ≡ 1 → steps ≡ budget → Reason budget steps a
-  -- the instruction that the counter is on is refused
-  stopped : stepOf (a .memory) (a .ran .machine) ≡ refused (a .ran .answer) → steps < budget → Reason budget steps a
-
--- a run from w, with n steps and c cycles counted before
-pub record Course (budget : ℕ) (w : World) (n c : ℕ) (a : After) : Type 0 where
-  pub history : History w (left a)
-  pub unbroken : Unbroken history
-  pub steps : a .ran .steps .0 ≡ n + stepsIn history
-  pub cycles : a .ran .cycles .0 ≡ c + cyclesIn history
-  pub reason : Reason budget (stepsIn history) a
+use Rattle.demands.specs.History.{world, here, then, step, stepsIn}
+use Rattle.demands.specs.Course.{Reason, spent, stopped, Course}
 
 one-more : (budget n : ℕ) (a : After) → Reason budget n a → Reason (suc budget) (suc n) a
 one-more budget n a (spent e is) = spent e (omega arith)
