@@ -13,7 +13,7 @@ static unsigned long FIRST_VALUE, SECOND_VALUE;
 
 #include "plain.c"
 
-enum { LONGEST_FILE = 40000, SECONDS = 2 };
+enum { LONGEST_FILE = 40000, SECONDS = 2, NOISE = 0xAA };
 
 static size_t read_file(const char *name, uint8_t *to) {
     FILE *file = fopen(name, "rb");
@@ -28,6 +28,7 @@ static int as_expected(const char *name) {
     char beside[1000];
     snprintf(beside, sizeof beside, "%.*s.expected", (int)(strrchr(name, '.') - name), name);
     size_t wanted = read_file(beside, expected);
+    memset(memory, NOISE, sizeof memory);
     uint64_t length = plain_bench(image, read_file(name, image), memory, sizeof memory, text, sizeof text);
     return length == wanted && memcmp(text, expected, wanted) == 0;
 }
