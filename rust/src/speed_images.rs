@@ -30,6 +30,7 @@ pub fn speed_images() -> Vec<SpeedImage> {
         long("arrays", ARRAYS),
         long("exceptions", EXCEPTIONS),
         long("arithmetic", ARITHMETIC),
+        long("branches", BRANCHES),
         SpeedImage { name: "small run", file: image(&assemble(SMALL), &[1, 2], None), steps: 10, per_step: false },
     ]
 }
@@ -115,6 +116,13 @@ const ARITHMETIC: &str = "
              DUP  XWORD  OVER  XBYTE  <  AND
              OVER  U<  0=  DROP
              BRA start
+";
+
+/// A count down to 0, again and again: of 401 steps, 399 are 1-, DUP and the branches.
+const BRANCHES: &str = "
+    start:   DROP  LOAD.B 100
+    next:    1-  DUP  BEQ start
+             BRA next
 ";
 
 /// Ten steps and an end.

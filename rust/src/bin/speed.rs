@@ -177,13 +177,15 @@ fn print_table(title: &str, images: &[SpeedImage], measure: fn(usize, &SpeedImag
     over
 }
 
-/// Ten marks to the whole; a stroke stands at 1, at 1.5 and at 2.
+/// Twenty marks to the whole; a stroke stands at 1, at the limit and at 2.
 fn bar(ratio: f64) -> String {
-    let filled = (ratio * 10.0).round() as usize;
+    let marks = |ratio: f64| (ratio * 20.0).round() as usize;
+    let strokes = [1.0, LIMIT, 2.0].map(marks);
+    let filled = marks(ratio);
     let mut bar = String::new();
-    for place in 0..filled.clamp(20, 40) {
-        bar.push(if place < filled { '#' } else { '.' });
-        if matches!(place, 9 | 14 | 19) {
+    for mark in 1..=filled.clamp(marks(2.0), marks(4.0)) {
+        bar.push(if mark <= filled { '#' } else { '.' });
+        if strokes.contains(&mark) {
             bar.push('|');
         }
     }

@@ -1,4 +1,6 @@
-//! The bench sheet, line by line, and the readings that must not be taken.
+//! The bench sheet, line by line, every image of the folders, and the readings that must not be taken.
+
+use std::fs;
 
 use super::bench::bench;
 use super::run::run;
@@ -39,6 +41,22 @@ fn caught_with(at_8: &[u8]) -> Vec<u8> {
 fn worked_input() {
     let file = [0, 0, 0, 6, 0x34, 5, 0x34, 7, 0x0E, 0x3D, 0, 0, 0, 0, 0, 0, 0, 1, 0, 0, 3, 0xE8];
     assert_eq!(text_of(&file), "0 3 5 5 1 0 0 0\n0000000C\n");
+}
+
+#[test]
+fn every_image_gives_its_expected_text() {
+    let mut seen = 0;
+    for folder in ["../sheet", "../samples"] {
+        for entry in fs::read_dir(folder).expect("a folder of images") {
+            let file = entry.expect("a file of the folder").path();
+            if file.extension().is_some_and(|ending| ending == "image") {
+                let expected = fs::read_to_string(file.with_extension("expected")).expect("a text beside the image");
+                assert_eq!(text_of(&fs::read(&file).expect("an image")), expected, "{}", file.display());
+                seen += 1;
+            }
+        }
+    }
+    assert!(seen >= 350, "{seen} images");
 }
 
 #[test]
