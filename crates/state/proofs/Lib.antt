@@ -1,4 +1,1 @@
-pub mod Filling
-pub mod Putting
 pub mod Standing
-pub mod Giving

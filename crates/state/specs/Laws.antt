@@ -1,5 +1,3 @@
-pub mod Numbers
-pub mod Rows
-pub mod Sizes
+pub mod Sound
 pub mod Spelling
-pub mod Only
+pub mod Rows

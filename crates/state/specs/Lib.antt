@@ -1,5 +1,4 @@
-pub mod Layout
-pub mod Fitting
 pub mod Parts
-pub mod Promise
+pub mod Layout
+pub mod Places
 pub mod Laws
