@@ -55,7 +55,7 @@ pub(crate) const STATE_COUNTER: usize = STATE_LINKS + LINKS;
 
 pub(crate) const STATE_FLAG: usize = STATE_COUNTER + CELL;
 
-pub const STATE: usize = STATE_FLAG + CELL;
+pub const SIZE: usize = STATE_FLAG + CELL;
 
-// What a run counted: answer, steps, cycles.
-pub const RESULT: usize = POINTER + POINTER + POINTER;
+// What a run counted: answer, steps and cycles, each as wide as a pointer.
+pub const RESULT: usize = 3 * POINTER;
