@@ -64,9 +64,10 @@ module _ {A : Type 0} (part : Part A) (l : List ℕ) (from n : ℕ) (xs : List A
         long = long;
         done =
             record {
-              fit =
-                  (length-take-le (i + 1) xs (omega arith),
-                    subst (All (part .Fits)) (sym grown) (all-more (part .Fits) (take i xs) x (p .done .fit .1) (q .fit)));
+              fit = (
+                length-take-le (i + 1) xs (omega arith),
+                subst (All (part .Fits)) (sym grown) (all-more (part .Fits) (take i xs) x (p .done .fit .1) (q .fit)),
+              );
               next-is = omega arith;
               bytes-are =
                   q .bytes-are

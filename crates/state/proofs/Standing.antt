@@ -74,9 +74,10 @@ module _ {A : Type 0} (part : Part A) (s : List ℕ) (from n : ℕ) where
         long = long;
         filled =
             record {
-              fit =
-                  (length-take-le (i + 1) (set xs i x) (omega arith),
-                    subst (All (part .Fits)) (sym grown) (all-more (part .Fits) (take i xs) x (f .filled .fit .1) (t .fit)));
+              fit = (
+                length-take-le (i + 1) (set xs i x) (omega arith),
+                subst (All (part .Fits)) (sym grown) (all-more (part .Fits) (take i xs) x (f .filled .fit .1) (t .fit)),
+              );
               spelled =
                   ap (each (part .bytes)) grown
                   ∙ each-more (part .bytes) (take i xs) x

@@ -23,14 +23,14 @@ links-sound =
     fields-sound linksFields
     (row-sound cell cell-sound 64 and pointer-sound and row-sound frame frame-sound 33 and pointer-sound and row-sound level level-sound 9 and pointer-sound and tt)
     (λ l m e i.
-      record {
-        returns = e .0 i;
-        r = e .1 .0 i;
-        frames = e .1 .1 .0 i;
-        s = e .1 .1 .1 .0 i;
-        levels = e .1 .1 .1 .1 .0 i;
-        e = e .1 .1 .1 .1 .1 .0 i;
-      })
+    record {
+      returns = e .0 i;
+      r = e .1 .0 i;
+      frames = e .1 .1 .0 i;
+      s = e .1 .1 .1 .0 i;
+      levels = e .1 .1 .1 .1 .0 i;
+      e = e .1 .1 .1 .1 .1 .0 i;
+    })
 
 pub state-sound : Sound state
 state-sound =
