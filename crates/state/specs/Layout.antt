@@ -1,6 +1,7 @@
 -- A whole machine as bytes, and what its run counted. What joins the machine stands at the end of its list.
 use mathlib.Core.List.{List, [], _∷_}
 use Prim.Native.Nat.{ℕ}
+use Rattle.links.specs.Depths.{cellsDepth, returnsDepth, framesCount, levelsCount, localsCount, levelCells}
 use Rattle.links.specs.declared.Frame.{Frame}
 use Rattle.links.specs.declared.Level.{Level}
 use Rattle.links.specs.declared.Links.{Links}
@@ -17,24 +18,24 @@ abbrev pub pointer : Part ℕ
 pointer = number 8
 
 abbrev pub frameFields : List (Field Frame)
-frameFields = row 16 cell of (λ f. f .locals) ∷ pointer of (λ f. f .r) ∷ cell of (λ f. f .address) ∷ []
+frameFields = row localsCount cell of (λ f. f .locals) ∷ pointer of (λ f. f .r) ∷ cell of (λ f. f .address) ∷ []
 
 abbrev pub frame : Part Frame
 frame = fields frameFields
 
 abbrev pub levelFields : List (Field Level)
-levelFields = row 8 cell of (λ l. l .cells) ∷ pointer of (λ l. l .s) ∷ pointer of (λ l. l .p) ∷ cell of (λ l. l .address) ∷ []
+levelFields = row levelCells cell of (λ l. l .cells) ∷ pointer of (λ l. l .s) ∷ pointer of (λ l. l .p) ∷ cell of (λ l. l .address) ∷ []
 
 abbrev pub level : Part Level
 level = fields levelFields
 
 abbrev pub linksFields : List (Field Links)
 linksFields =
-    row 64 cell of (λ l. l .returns)
+    row returnsDepth cell of (λ l. l .returns)
     ∷ pointer of (λ l. l .r)
-    ∷ row 33 frame of (λ l. l .frames)
+    ∷ row framesCount frame of (λ l. l .frames)
     ∷ pointer of (λ l. l .s)
-    ∷ row 9 level of (λ l. l .levels)
+    ∷ row levelsCount level of (λ l. l .levels)
     ∷ pointer of (λ l. l .e)
     ∷ []
 
@@ -43,7 +44,7 @@ links = fields linksFields
 
 abbrev pub stateFields : List (Field Machine)
 stateFields =
-    row 64 cell of (λ m. m .cells)
+    row cellsDepth cell of (λ m. m .cells)
     ∷ pointer of (λ m. m .p)
     ∷ links of (λ m. m .links)
     ∷ cell of (λ m. m .counter)

@@ -1,4 +1,7 @@
 // How many bytes each part of a state takes, and where its own parts begin: each right after the one before it.
+use links::Frame;
+use links::Level;
+use links::Links;
 use machine::Machine;
 
 pub(crate) const CELL: usize = 4;
@@ -7,18 +10,14 @@ pub(crate) const CELL: usize = 4;
 pub(crate) const POINTER: usize = 8;
 
 // A subroutine level: locals, copy of R, return address.
-pub(crate) const LOCALS: usize = 16;
-
-pub(crate) const FRAME_R: usize = LOCALS * CELL;
+pub(crate) const FRAME_R: usize = Frame::LOCALS * CELL;
 
 pub(crate) const FRAME_ADDRESS: usize = FRAME_R + POINTER;
 
 pub(crate) const FRAME: usize = FRAME_ADDRESS + CELL;
 
 // An exception level: cells, copies of S and of P, throw address.
-pub(crate) const LEVEL_CELLS: usize = 8;
-
-pub(crate) const LEVEL_S: usize = LEVEL_CELLS * CELL;
+pub(crate) const LEVEL_S: usize = Level::CELLS * CELL;
 
 pub(crate) const LEVEL_P: usize = LEVEL_S + POINTER;
 
@@ -26,21 +25,16 @@ pub(crate) const LEVEL_ADDRESS: usize = LEVEL_P + POINTER;
 
 pub(crate) const LEVEL: usize = LEVEL_ADDRESS + CELL;
 
-// Level 0 stands below the depths.
-pub(crate) const FRAMES: usize = Machine::SUBROUTINES + 1;
-
-pub(crate) const LEVELS: usize = Machine::EXCEPTIONS + 1;
-
 // The linked stacks: return cells, R, frames, S, exception levels, E.
-pub(crate) const LINKS_R: usize = Machine::RETURNS * CELL;
+pub(crate) const LINKS_R: usize = Links::RETURNS * CELL;
 
 pub(crate) const LINKS_FRAMES: usize = LINKS_R + POINTER;
 
-pub(crate) const LINKS_S: usize = LINKS_FRAMES + FRAMES * FRAME;
+pub(crate) const LINKS_S: usize = LINKS_FRAMES + Links::FRAMES * FRAME;
 
 pub(crate) const LINKS_LEVELS: usize = LINKS_S + POINTER;
 
-pub(crate) const LINKS_E: usize = LINKS_LEVELS + LEVELS * LEVEL;
+pub(crate) const LINKS_E: usize = LINKS_LEVELS + Links::LEVELS * LEVEL;
 
 pub(crate) const LINKS: usize = LINKS_E + POINTER;
 

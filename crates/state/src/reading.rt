@@ -3,9 +3,9 @@ use crate::places;
 use links::Frame;
 use links::Level;
 use links::Links;
-use machine::Machine;
 ghost use Prim.Native.Nat.{_+_, _≤_};
 ghost use lib.ListN.{length};
+ghost use Rattle.links.specs.Depths.{framesCount, levelsCount};
 ghost use Rattle.state.specs.Parts.{row};
 ghost use Rattle.state.specs.Layout.{cell, pointer, frame, level, links};
 ghost use Rattle.state.specs.Places.{Stands};
@@ -49,7 +49,7 @@ fn frame_at(state: &[u8], at: usize) -> Frame
     requires { ⌜ at + frame .width ≤ length (now state) ⌝ }
     ensures { λ r. ⌜ Stands frame (now (state .entry)) at r ⌝ }
 {
-    let mut locals = [0u32; places::LOCALS];
+    let mut locals = [0u32; Frame::LOCALS];
     fill(state, at, &mut locals);
     let r = pointer_at(state, at + places::FRAME_R);
     let address = cell_at(state, at + places::FRAME_ADDRESS);
@@ -60,7 +60,7 @@ fn level_at(state: &[u8], at: usize) -> Level
     requires { ⌜ at + level .width ≤ length (now state) ⌝ }
     ensures { λ r. ⌜ Stands level (now (state .entry)) at r ⌝ }
 {
-    let mut cells = [0u32; places::LEVEL_CELLS];
+    let mut cells = [0u32; Level::CELLS];
     fill(state, at, &mut cells);
     let s = pointer_at(state, at + places::LEVEL_S);
     let p = pointer_at(state, at + places::LEVEL_P);
@@ -73,28 +73,28 @@ fn level_at(state: &[u8], at: usize) -> Level
     }
 }
 
-fn frames_at(state: &[u8], from: usize) -> [Frame; places::FRAMES]
-    requires { ⌜ from + row 33 frame .width ≤ length (now state) ⌝ }
-    ensures { λ r. ⌜ Stands (row 33 frame) (now (state .entry)) from r ⌝ }
+fn frames_at(state: &[u8], from: usize) -> [Frame; Links::FRAMES]
+    requires { ⌜ from + row framesCount frame .width ≤ length (now state) ⌝ }
+    ensures { λ r. ⌜ Stands (row framesCount frame) (now (state .entry)) from r ⌝ }
 {
     let fresh = Links::fresh();
     let mut frames = fresh.frames;
     let mut i = 0;
-    while i < places::FRAMES {
+    while i < Links::FRAMES {
         frames[i] = frame_at(state, from + i * places::FRAME);
         i += 1;
     }
     frames
 }
 
-fn levels_at(state: &[u8], from: usize) -> [Level; places::LEVELS]
-    requires { ⌜ from + row 9 level .width ≤ length (now state) ⌝ }
-    ensures { λ r. ⌜ Stands (row 9 level) (now (state .entry)) from r ⌝ }
+fn levels_at(state: &[u8], from: usize) -> [Level; Links::LEVELS]
+    requires { ⌜ from + row levelsCount level .width ≤ length (now state) ⌝ }
+    ensures { λ r. ⌜ Stands (row levelsCount level) (now (state .entry)) from r ⌝ }
 {
     let fresh = Links::fresh();
     let mut levels = fresh.levels;
     let mut i = 0;
-    while i < places::LEVELS {
+    while i < Links::LEVELS {
         levels[i] = level_at(state, from + i * places::LEVEL);
         i += 1;
     }
@@ -105,7 +105,7 @@ pub(crate) fn links_at(state: &[u8], at: usize) -> Links
     requires { ⌜ at + links .width ≤ length (now state) ⌝ }
     ensures { λ r. ⌜ Stands links (now (state .entry)) at r ⌝ }
 {
-    let mut returns = [0u32; Machine::RETURNS];
+    let mut returns = [0u32; Links::RETURNS];
     fill(state, at, &mut returns);
     let r = pointer_at(state, at + places::LINKS_R);
     let frames = frames_at(state, at + places::LINKS_FRAMES);

@@ -5,6 +5,7 @@ use links::Level;
 use links::Links;
 ghost use Prim.Native.Nat.{_+_, _≤_};
 ghost use lib.ListN.{length};
+ghost use Rattle.links.specs.Depths.{framesCount, levelsCount};
 ghost use Rattle.state.specs.Parts.{row};
 ghost use Rattle.state.specs.Layout as layout;
 ghost use Rattle.state.specs.Places.{Put};
@@ -60,13 +61,13 @@ fn put_level(state: &mut [u8], at: usize, level: Level) -> usize
     put_cell(state, after_p, level.address)
 }
 
-fn put_frames(state: &mut [u8], from: usize, frames: [Frame; places::FRAMES]) -> usize
-    requires { ⌜ from + row 33 layout.frame .width ≤ length (now state) ⌝ }
-    ensures { λ r. ⌜ Put (row 33 layout.frame) (now (state .entry)) from frames (now (state .exit)) r ⌝ }
+fn put_frames(state: &mut [u8], from: usize, frames: [Frame; Links::FRAMES]) -> usize
+    requires { ⌜ from + row framesCount layout.frame .width ≤ length (now state) ⌝ }
+    ensures { λ r. ⌜ Put (row framesCount layout.frame) (now (state .entry)) from frames (now (state .exit)) r ⌝ }
 {
     let mut at = from;
     let mut i = 0;
-    while i < places::FRAMES {
+    while i < Links::FRAMES {
         let frame = frames[i];
         at = put_frame(state, at, frame);
         i += 1;
@@ -74,13 +75,13 @@ fn put_frames(state: &mut [u8], from: usize, frames: [Frame; places::FRAMES]) ->
     at
 }
 
-fn put_levels(state: &mut [u8], from: usize, levels: [Level; places::LEVELS]) -> usize
-    requires { ⌜ from + row 9 layout.level .width ≤ length (now state) ⌝ }
-    ensures { λ r. ⌜ Put (row 9 layout.level) (now (state .entry)) from levels (now (state .exit)) r ⌝ }
+fn put_levels(state: &mut [u8], from: usize, levels: [Level; Links::LEVELS]) -> usize
+    requires { ⌜ from + row levelsCount layout.level .width ≤ length (now state) ⌝ }
+    ensures { λ r. ⌜ Put (row levelsCount layout.level) (now (state .entry)) from levels (now (state .exit)) r ⌝ }
 {
     let mut at = from;
     let mut i = 0;
-    while i < places::LEVELS {
+    while i < Links::LEVELS {
         let level = levels[i];
         at = put_level(state, at, level);
         i += 1;

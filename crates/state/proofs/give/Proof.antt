@@ -3,6 +3,7 @@ use mathlib.Core.Path.{_≡_}
 use native.Mathlib.Omega.{arith}
 use borrow.Author.Needs.{needs}
 use lib.ListN.{length}
+use Rattle.links.specs.Depths.{cellsDepth}
 use Rattle.state.specs.Layout.{stateFields, state}
 use Rattle.state.specs.Promise.{wrong-size}
 use Rattle.state.proofs.Putting.{put-counted, none, _then_, fields-put, put-whole}
@@ -17,20 +18,20 @@ slice-aggregate-put-row c = search needs
 
 put-row-requires : tie.Need-put-row-requires
 put-row-requires c κs =
-    let long : 64 ≡ length (c .before .before .before .before .before .before .args .machine .cells) = slice-aggregate-put-row c in
+    let long : cellsDepth ≡ length (c .before .before .before .before .before .before .args .machine .cells) = slice-aggregate-put-row c in
     omega arith
 
 put-pointer-requires : tie.Need-put-pointer-requires
 put-pointer-requires c κs =
     let at₁ = c .before .before .before in
-    let long : 64 ≡ length (at₁ .before .before .before .before .before .before .before .args .machine .cells) = slice-aggregate-put-row (at₁ .before) in
+    let long : cellsDepth ≡ length (at₁ .before .before .before .before .before .before .before .args .machine .cells) = slice-aggregate-put-row (at₁ .before) in
     omega (arith, at₁ .before .before .before .before .before .if1 .left)
 
 put-links-requires : tie.Need-put-links-requires
 put-links-requires c κs =
     let at₂ = c .before .before .before in
     let at₁ = at₂ .before .before .before .before in
-    let long : 64 ≡ length (at₁ .before .before .before .before .before .before .before .args .machine .cells) = slice-aggregate-put-row (at₁ .before) in
+    let long : cellsDepth ≡ length (at₁ .before .before .before .before .before .before .before .args .machine .cells) = slice-aggregate-put-row (at₁ .before) in
     omega (arith, at₁ .before .before .before .before .before .if1 .left)
 
 put-cell-requires : tie.Need-put-cell-requires
@@ -38,7 +39,7 @@ put-cell-requires c κs =
     let at₃ = c .before .before .before in
     let at₂ = at₃ .before .before .before .before in
     let at₁ = at₂ .before .before .before .before in
-    let long : 64 ≡ length (at₁ .before .before .before .before .before .before .before .args .machine .cells) = slice-aggregate-put-row (at₁ .before) in
+    let long : cellsDepth ≡ length (at₁ .before .before .before .before .before .before .before .args .machine .cells) = slice-aggregate-put-row (at₁ .before) in
     omega (arith, at₁ .before .before .before .before .before .if1 .left)
 
 put-cell-requires-2 : tie.Need-put-cell-requires-2
@@ -47,7 +48,7 @@ put-cell-requires-2 c κs =
     let at₃ = at₄ .before .before .before .before in
     let at₂ = at₃ .before .before .before .before in
     let at₁ = at₂ .before .before .before .before in
-    let long : 64 ≡ length (at₁ .before .before .before .before .before .before .before .args .machine .cells) = slice-aggregate-put-row (at₁ .before) in
+    let long : cellsDepth ≡ length (at₁ .before .before .before .before .before .before .before .args .machine .cells) = slice-aggregate-put-row (at₁ .before) in
     omega (arith, at₁ .before .before .before .before .before .if1 .left)
 
 same-length : tie.Need-same-length
@@ -63,7 +64,7 @@ returns-2 c =
     let a = at₁ .before .before .before .before .before .before .before .args in
     put-whole state (a .machine) (a .state .now) _ (at₁ .before .before .before .before .before .if1 .left)
     (fields-put stateFields (a .machine) (a .state .now) 0 _ _
-    (put-counted 64 (a .machine .cells) (slice-aggregate-put-row (at₁ .before)) (at₁ .put-row .ensures)
+    (put-counted cellsDepth (a .machine .cells) (slice-aggregate-put-row (at₁ .before)) (at₁ .put-row .ensures)
     then at₂ .put-pointer .ensures
     then at₃ .put-links .ensures
     then at₄ .put-cell .ensures

@@ -3,18 +3,19 @@ use mathlib.Core.Path.{ap, _∙_}
 use Prim.Native.Nat.{_-_}
 use native.Mathlib.Omega.{arith}
 use lib.ListN.{length}
+use Rattle.links.specs.Depths.{framesCount}
 use Rattle.links.specs.declared.Links.{Links}
-use Rattle.links.specs.Laws.Occurs.{fresh-shaped}
+use Rattle.links.specs.Laws.Fresh.{fresh-shaped}
 use Rattle.state.specs.Layout.{frame}
 use Rattle.state.proofs.Standing.{Filling, filling-none, filling-more, filling-all}
 use Rattle.state.proofs.reading.frames_at.Statement.{statement}
 use Rattle.state.proofs.reading.frames_at.Tie as tie
 
 abbrev Inv-loop : tie.InvT-loop
-Inv-loop state from frames₀ i₀ frames i = Filling frame state from 33 frames i
+Inv-loop state from frames₀ i₀ frames i = Filling frame state from framesCount frames i
 
 abbrev μ-loop : tie.MeasureT-loop
-μ-loop state from frames₀ i₀ frames i = 33 - i
+μ-loop state from frames₀ i₀ frames i = framesCount - i
 
 fresh-requires : tie.Need-fresh-requires Inv-loop μ-loop
 fresh-requires c κs = tt
@@ -23,7 +24,7 @@ loop-holds : tie.Need-loop-holds Inv-loop μ-loop
 loop-holds c =
     let a = c .before .before .before .args in
     let fresh = c .before .fresh in
-    filling-none frame (a .state .now) (a .from) 33 (fresh .result .frames) (ap (λ (l : Links). length (l .frames)) (fresh .ensures) ∙ fresh-shaped .frames-long)
+    filling-none frame (a .state .now) (a .from) framesCount (fresh .result .frames) (ap (λ (l : Links). length (l .frames)) (fresh .ensures) ∙ fresh-shaped .frames-long)
 
 mul-frame-at : tie.Need-mul-frame-at Inv-loop μ-loop
 mul-frame-at c = omega arith
@@ -49,12 +50,12 @@ loop-less c = omega arith
 loop-again : tie.Need-loop-again Inv-loop μ-loop
 loop-again c =
     let a = c .before .before .before .before .before .before .args in
-    filling-more frame (a .state .now) (a .from) 33 (c .before .before .loop .inv) (omega arith) (c .frame-at .result) (c .frame-at .ensures)
+    filling-more frame (a .state .now) (a .from) framesCount (c .before .before .loop .inv) (omega arith) (c .frame-at .result) (c .frame-at .ensures)
 
 returns : tie.Need-returns Inv-loop μ-loop
 returns c =
     let a = c .before .before .before .before .before .args in
-    filling-all frame (a .state .now) (a .from) 33 (c .before .loop .inv) (omega arith)
+    filling-all frame (a .state .now) (a .from) framesCount (c .before .loop .inv) (omega arith)
 
 pub frames-at-spec : {M : Type 1} → statement M
 frames-at-spec =

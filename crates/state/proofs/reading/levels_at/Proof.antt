@@ -3,18 +3,19 @@ use mathlib.Core.Path.{ap, _∙_}
 use Prim.Native.Nat.{_-_}
 use native.Mathlib.Omega.{arith}
 use lib.ListN.{length}
+use Rattle.links.specs.Depths.{levelsCount}
 use Rattle.links.specs.declared.Links.{Links}
-use Rattle.links.specs.Laws.Occurs.{fresh-shaped}
+use Rattle.links.specs.Laws.Fresh.{fresh-shaped}
 use Rattle.state.specs.Layout.{level}
 use Rattle.state.proofs.Standing.{Filling, filling-none, filling-more, filling-all}
 use Rattle.state.proofs.reading.levels_at.Statement.{statement}
 use Rattle.state.proofs.reading.levels_at.Tie as tie
 
 abbrev Inv-loop : tie.InvT-loop
-Inv-loop state from levels₀ i₀ levels i = Filling level state from 9 levels i
+Inv-loop state from levels₀ i₀ levels i = Filling level state from levelsCount levels i
 
 abbrev μ-loop : tie.MeasureT-loop
-μ-loop state from levels₀ i₀ levels i = 9 - i
+μ-loop state from levels₀ i₀ levels i = levelsCount - i
 
 fresh-requires : tie.Need-fresh-requires Inv-loop μ-loop
 fresh-requires c κs = tt
@@ -23,7 +24,7 @@ loop-holds : tie.Need-loop-holds Inv-loop μ-loop
 loop-holds c =
     let a = c .before .before .before .args in
     let fresh = c .before .fresh in
-    filling-none level (a .state .now) (a .from) 9 (fresh .result .levels) (ap (λ (l : Links). length (l .levels)) (fresh .ensures) ∙ fresh-shaped .levels-long)
+    filling-none level (a .state .now) (a .from) levelsCount (fresh .result .levels) (ap (λ (l : Links). length (l .levels)) (fresh .ensures) ∙ fresh-shaped .levels-long)
 
 mul-level-at : tie.Need-mul-level-at Inv-loop μ-loop
 mul-level-at c = omega arith
@@ -49,12 +50,12 @@ loop-less c = omega arith
 loop-again : tie.Need-loop-again Inv-loop μ-loop
 loop-again c =
     let a = c .before .before .before .before .before .before .args in
-    filling-more level (a .state .now) (a .from) 9 (c .before .before .loop .inv) (omega arith) (c .level-at .result) (c .level-at .ensures)
+    filling-more level (a .state .now) (a .from) levelsCount (c .before .before .loop .inv) (omega arith) (c .level-at .result) (c .level-at .ensures)
 
 returns : tie.Need-returns Inv-loop μ-loop
 returns c =
     let a = c .before .before .before .before .before .args in
-    filling-all level (a .state .now) (a .from) 9 (c .before .loop .inv) (omega arith)
+    filling-all level (a .state .now) (a .from) levelsCount (c .before .loop .inv) (omega arith)
 
 pub levels-at-spec : {M : Type 1} → statement M
 levels-at-spec =

@@ -3,6 +3,7 @@ use mathlib.Core.Path.{_≡_}
 use native.Mathlib.Omega.{arith}
 use borrow.Author.Needs.{needs}
 use lib.ListN.{length}
+use Rattle.links.specs.Depths.{localsCount}
 use Rattle.state.specs.Layout.{frameFields}
 use Rattle.state.proofs.Putting.{put-counted, none, _then_, fields-put}
 use Rattle.state.proofs.writing.put_frame.Statement.{statement}
@@ -13,14 +14,14 @@ slice-aggregate-put-row c = search needs
 
 put-row-requires : tie.Need-put-row-requires
 put-row-requires c κs =
-    let long : 16 ≡ length (c .before .before .before .before .args .frame .locals) = slice-aggregate-put-row c in
+    let long : localsCount ≡ length (c .before .before .before .before .args .frame .locals) = slice-aggregate-put-row c in
     omega arith
 
 put-pointer-requires : tie.Need-put-pointer-requires
 put-pointer-requires c κs =
     let at₁ = c .before .before .before in
     let start = at₁ .before .before .before .before .before in
-    let long : 16 ≡ length (start .args .frame .locals) = slice-aggregate-put-row (at₁ .before) in
+    let long : localsCount ≡ length (start .args .frame .locals) = slice-aggregate-put-row (at₁ .before) in
     omega (arith, start .pre)
 
 put-cell-requires : tie.Need-put-cell-requires
@@ -28,7 +29,7 @@ put-cell-requires c κs =
     let at₂ = c .before .before .before in
     let at₁ = at₂ .before .before .before .before in
     let start = at₁ .before .before .before .before .before in
-    let long : 16 ≡ length (start .args .frame .locals) = slice-aggregate-put-row (at₁ .before) in
+    let long : localsCount ≡ length (start .args .frame .locals) = slice-aggregate-put-row (at₁ .before) in
     omega (arith, start .pre)
 
 same-length : tie.Need-same-length
@@ -41,7 +42,7 @@ returns c =
     let at₁ = at₂ .before .before .before .before in
     let start = at₁ .before .before .before .before .before in
     fields-put frameFields (start .args .frame) (start .args .state .now) (start .args .at) _ _
-    (put-counted 16 (start .args .frame .locals) (slice-aggregate-put-row (at₁ .before)) (at₁ .put-row .ensures)
+    (put-counted localsCount (start .args .frame .locals) (slice-aggregate-put-row (at₁ .before)) (at₁ .put-row .ensures)
     then at₂ .put-pointer .ensures
     then at₃ .put-cell .ensures
     then none)

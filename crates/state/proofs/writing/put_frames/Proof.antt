@@ -1,6 +1,7 @@
 -- Before pass i the first i frames have been put.
 use Prim.Native.Nat.{_-_}
 use native.Mathlib.Omega.{arith}
+use Rattle.links.specs.Depths.{framesCount}
 use Rattle.links.specs.Linked.{noFrame}
 use Rattle.state.specs.Layout.{frame}
 use Rattle.state.proofs.Putting.{Putting, putting-none, putting-more, putting-all}
@@ -8,15 +9,15 @@ use Rattle.state.proofs.writing.put_frames.Statement.{statement}
 use Rattle.state.proofs.writing.put_frames.Tie as tie
 
 abbrev Inv-loop : tie.InvT-loop
-Inv-loop state₀ from frames at₀ i₀ state at i = Putting frame state₀ from 33 frames state at i
+Inv-loop state₀ from frames at₀ i₀ state at i = Putting frame state₀ from framesCount frames state at i
 
 abbrev μ-loop : tie.MeasureT-loop
-μ-loop state₀ from frames at₀ i₀ state at i = 33 - i
+μ-loop state₀ from frames at₀ i₀ state at i = framesCount - i
 
 loop-holds : tie.Need-loop-holds Inv-loop μ-loop
 loop-holds c =
     let a = c .before .args in
-    putting-none frame (a .state .now) (a .from) 33 (a .t3) (omega arith)
+    putting-none frame (a .state .now) (a .from) framesCount (a .t3) (omega arith)
 
 mul-frame : tie.Need-mul-frame Inv-loop μ-loop
 mul-frame c = omega arith
@@ -37,7 +38,7 @@ loop-again : tie.Need-loop-again Inv-loop μ-loop
 loop-again c =
     let here = c .before .before .before .before .before .before in
     let a = here .before .before .args in
-    putting-more frame (a .state .now) (a .from) 33 (a .t3) (here .loop .inv) (omega arith) noFrame (c .before .before .put-frame .ensures)
+    putting-more frame (a .state .now) (a .from) framesCount (a .t3) (here .loop .inv) (omega arith) noFrame (c .before .before .put-frame .ensures)
 
 same-length : tie.Need-same-length Inv-loop μ-loop
 same-length c = c .before .loop .inv .done .as-long
@@ -45,7 +46,7 @@ same-length c = c .before .loop .inv .done .as-long
 returns : tie.Need-returns Inv-loop μ-loop
 returns c =
     let a = c .before .before .before .args in
-    putting-all frame (a .state .now) (a .from) 33 (a .t3) (c .before .loop .inv) (omega arith)
+    putting-all frame (a .state .now) (a .from) framesCount (a .t3) (c .before .loop .inv) (omega arith)
 
 pub put-frames-spec : {M : Type 1} → statement M
 put-frames-spec =

@@ -1,6 +1,7 @@
 -- Before pass i the first i levels have been put.
 use Prim.Native.Nat.{_-_}
 use native.Mathlib.Omega.{arith}
+use Rattle.links.specs.Depths.{levelsCount}
 use Rattle.links.specs.Linked.{noLevel}
 use Rattle.state.specs.Layout.{level}
 use Rattle.state.proofs.Putting.{Putting, putting-none, putting-more, putting-all}
@@ -8,15 +9,15 @@ use Rattle.state.proofs.writing.put_levels.Statement.{statement}
 use Rattle.state.proofs.writing.put_levels.Tie as tie
 
 abbrev Inv-loop : tie.InvT-loop
-Inv-loop state₀ from levels at₀ i₀ state at i = Putting level state₀ from 9 levels state at i
+Inv-loop state₀ from levels at₀ i₀ state at i = Putting level state₀ from levelsCount levels state at i
 
 abbrev μ-loop : tie.MeasureT-loop
-μ-loop state₀ from levels at₀ i₀ state at i = 9 - i
+μ-loop state₀ from levels at₀ i₀ state at i = levelsCount - i
 
 loop-holds : tie.Need-loop-holds Inv-loop μ-loop
 loop-holds c =
     let a = c .before .args in
-    putting-none level (a .state .now) (a .from) 9 (a .t3) (omega arith)
+    putting-none level (a .state .now) (a .from) levelsCount (a .t3) (omega arith)
 
 mul-level : tie.Need-mul-level Inv-loop μ-loop
 mul-level c = omega arith
@@ -37,7 +38,7 @@ loop-again : tie.Need-loop-again Inv-loop μ-loop
 loop-again c =
     let here = c .before .before .before .before .before .before in
     let a = here .before .before .args in
-    putting-more level (a .state .now) (a .from) 9 (a .t3) (here .loop .inv) (omega arith) noLevel (c .before .before .put-level .ensures)
+    putting-more level (a .state .now) (a .from) levelsCount (a .t3) (here .loop .inv) (omega arith) noLevel (c .before .before .put-level .ensures)
 
 same-length : tie.Need-same-length Inv-loop μ-loop
 same-length c = c .before .loop .inv .done .as-long
@@ -45,7 +46,7 @@ same-length c = c .before .loop .inv .done .as-long
 returns : tie.Need-returns Inv-loop μ-loop
 returns c =
     let a = c .before .before .before .args in
-    putting-all level (a .state .now) (a .from) 9 (a .t3) (c .before .loop .inv) (omega arith)
+    putting-all level (a .state .now) (a .from) levelsCount (a .t3) (c .before .loop .inv) (omega arith)
 
 pub put-levels-spec : {M : Type 1} → statement M
 put-levels-spec =

@@ -3,6 +3,7 @@ use mathlib.Core.Path.{_≡_}
 use native.Mathlib.Omega.{arith}
 use borrow.Author.Needs.{needs}
 use lib.ListN.{length}
+use Rattle.links.specs.Depths.{returnsDepth}
 use Rattle.state.specs.Layout.{linksFields}
 use Rattle.state.proofs.Putting.{put-counted, none, _then_, fields-put}
 use Rattle.state.proofs.writing.put_links.Statement.{statement}
@@ -13,14 +14,14 @@ slice-aggregate-put-row c = search needs
 
 put-row-requires : tie.Need-put-row-requires
 put-row-requires c κs =
-    let long : 64 ≡ length (c .before .before .before .before .before .before .args .links .returns) = slice-aggregate-put-row c in
+    let long : returnsDepth ≡ length (c .before .before .before .before .before .before .args .links .returns) = slice-aggregate-put-row c in
     omega arith
 
 put-pointer-requires : tie.Need-put-pointer-requires
 put-pointer-requires c κs =
     let at₁ = c .before .before .before in
     let start = at₁ .before .before .before .before .before .before .before in
-    let long : 64 ≡ length (start .args .links .returns) = slice-aggregate-put-row (at₁ .before) in
+    let long : returnsDepth ≡ length (start .args .links .returns) = slice-aggregate-put-row (at₁ .before) in
     omega (arith, start .pre)
 
 put-frames-requires : tie.Need-put-frames-requires
@@ -28,7 +29,7 @@ put-frames-requires c κs =
     let at₂ = c .before .before .before in
     let at₁ = at₂ .before .before .before .before in
     let start = at₁ .before .before .before .before .before .before .before in
-    let long : 64 ≡ length (start .args .links .returns) = slice-aggregate-put-row (at₁ .before) in
+    let long : returnsDepth ≡ length (start .args .links .returns) = slice-aggregate-put-row (at₁ .before) in
     omega (arith, start .pre)
 
 put-pointer-requires-2 : tie.Need-put-pointer-requires-2
@@ -37,7 +38,7 @@ put-pointer-requires-2 c κs =
     let at₂ = at₃ .before .before .before .before in
     let at₁ = at₂ .before .before .before .before in
     let start = at₁ .before .before .before .before .before .before .before in
-    let long : 64 ≡ length (start .args .links .returns) = slice-aggregate-put-row (at₁ .before) in
+    let long : returnsDepth ≡ length (start .args .links .returns) = slice-aggregate-put-row (at₁ .before) in
     omega (arith, start .pre)
 
 put-levels-requires : tie.Need-put-levels-requires
@@ -47,7 +48,7 @@ put-levels-requires c κs =
     let at₂ = at₃ .before .before .before .before in
     let at₁ = at₂ .before .before .before .before in
     let start = at₁ .before .before .before .before .before .before .before in
-    let long : 64 ≡ length (start .args .links .returns) = slice-aggregate-put-row (at₁ .before) in
+    let long : returnsDepth ≡ length (start .args .links .returns) = slice-aggregate-put-row (at₁ .before) in
     omega (arith, start .pre)
 
 put-pointer-requires-3 : tie.Need-put-pointer-requires-3
@@ -58,7 +59,7 @@ put-pointer-requires-3 c κs =
     let at₂ = at₃ .before .before .before .before in
     let at₁ = at₂ .before .before .before .before in
     let start = at₁ .before .before .before .before .before .before .before in
-    let long : 64 ≡ length (start .args .links .returns) = slice-aggregate-put-row (at₁ .before) in
+    let long : returnsDepth ≡ length (start .args .links .returns) = slice-aggregate-put-row (at₁ .before) in
     omega (arith, start .pre)
 
 same-length : tie.Need-same-length
@@ -74,7 +75,7 @@ returns c =
     let at₁ = at₂ .before .before .before .before in
     let start = at₁ .before .before .before .before .before .before .before in
     fields-put linksFields (start .args .links) (start .args .state .now) (start .args .at) _ _
-    (put-counted 64 (start .args .links .returns) (slice-aggregate-put-row (at₁ .before)) (at₁ .put-row .ensures)
+    (put-counted returnsDepth (start .args .links .returns) (slice-aggregate-put-row (at₁ .before)) (at₁ .put-row .ensures)
     then at₂ .put-pointer .ensures
     then at₃ .put-frames .ensures
     then at₄ .put-pointer2 .ensures
