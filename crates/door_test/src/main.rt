@@ -30,15 +30,15 @@ fn is_as_made(memory: &[u8]) -> bool {
 
 // One call, and what came of it. States are compared as their bytes.
 fn knock(name: &[u8], memory: &mut [u8], machine: Machine, budget: u32) {
-    let mut before = [0u8; 3528];
-    let mut after = [0u8; 3528];
+    let mut before = [0u8; state::SIZE];
+    let mut after = [0u8; state::SIZE];
     state::give(machine, &mut before);
     let ran = run::run(memory, machine, budget);
     let left = ran.machine;
     let steps = ran.steps;
     let cycles = ran.cycles;
     state::give(left, &mut after);
-    telling::numbers(name, ran.answer, steps.0, cycles.0);
+    telling::numbers(name, ran.answer, steps, cycles);
     telling::kept(b", state ", check::same(&before, &after));
     telling::kept(b", memory ", is_as_made(memory));
     telling::end();

@@ -42,7 +42,7 @@ pub(crate) fn nested(rs: [usize; 3], ss: [usize; 2], p: usize) -> Machine {
         levels,
         e: 2,
     };
-    let cells = [0u32; 64];
+    let cells = [0u32; Machine::CELLS];
     Machine {
         cells,
         p: 0,
@@ -66,7 +66,7 @@ pub(crate) fn pointing(p: usize, r: usize, s: usize, e: usize, flag: u32) -> Mac
         levels,
         e,
     };
-    let cells = [0u32; 64];
+    let cells = [0u32; Machine::CELLS];
     Machine {
         cells,
         p,

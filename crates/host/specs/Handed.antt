@@ -5,8 +5,7 @@ use Prim.Native.Nat.{ℕ}
 use lib.ListN.{length}
 use Rattle.machine.specs.Run.{After, runOf}
 use Rattle.machine.specs.declared.Machine.{Machine}
-use Rattle.state.specs.Layout.{stateBytes, stateSize, numbersOf, resultSize}
-use Rattle.state.specs.Fitting.{Fits}
+use Rattle.state.specs.Layout as layout
 
 -- the number, and the three lent buffers afterwards
 pub record Handed : Type 0 where
@@ -21,15 +20,16 @@ handedBack after =
     let ran = after .ran in
     record {
       number = 0;
-      state = stateBytes (ran .machine);
+      state = layout.state .bytes (ran .machine);
       memory = after .memory;
-      result = numbersOf (ran .answer) (ran .steps .0) (ran .cycles .0);
+      result = layout.result .bytes (record { answer = ran .answer; steps = ran .steps; cycles = ran .cycles });
     }
 
 -- `Hands state memory budget result handed`: another length of the state or the result is 2, and nothing is touched;
--- else the machine whose bytes the state is runs on the memory
+-- else the machine whose bytes the state is runs on the memory, and the bytes can carry the machine that it leaves
 pub data Hands (state memory : List ℕ) (budget : ℕ) (result : List ℕ) : Handed → Type 0 where
-  wrong-length : ((length state ≡ stateSize) × (length result ≡ resultSize) → ⊥)
+  wrong-length : ((length state ≡ layout.state .width) × (length result ≡ layout.result .width) → ⊥)
       → Hands state memory budget result (record { number = 2; state = state; memory = memory; result = result })
-  run : (m : Machine) → length state ≡ stateSize → length result ≡ resultSize → Fits m → stateBytes m ≡ state
+  run : (m : Machine) → length state ≡ layout.state .width → length result ≡ layout.result .width
+      → layout.state .Fits m → layout.state .bytes m ≡ state → layout.state .Fits (runOf memory m budget .ran .machine)
       → Hands state memory budget result (handedBack (runOf memory m budget))

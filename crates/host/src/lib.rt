@@ -25,7 +25,7 @@ pub extern "C" fn glidecotton_run_state(
 ) -> u64
     ensures { λ r. ⌜ Hands (now (state .entry)) (now (memory .entry)) budget (now (result .entry)) (record { number = r; state = now (state .exit); memory = now (memory .exit); result = now (result .exit) }) ⌝ }
 {
-    if result.len() != 24 {
+    if result.len() != state::RESULT {
         return 2;
     }
     let taken = state::take(state);
@@ -39,6 +39,6 @@ pub extern "C" fn glidecotton_run_state(
     let steps = ran.steps;
     let cycles = ran.cycles;
     state::give(after, state);
-    state::give_counts(ran.answer, steps.0, cycles.0, result);
+    state::give_counts(ran.answer, steps, cycles, result);
     0
 }

@@ -1,4 +1,2 @@
-pub mod Filling
-pub mod Putting
 pub mod Standing
-pub mod Giving
+pub mod Putting

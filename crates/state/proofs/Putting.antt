@@ -1,86 +1,120 @@
--- Laws of bytes that are put after bytes.
+-- Laws of parts that are put after the bytes so far: a number that was written, a row that is put, the fields of a record one after the other.
 use mathlib.Core.List.{List, [], _∷_, _++_, append-assoc, append-nil}
 use mathlib.Core.Path.{_≡_, refl, sym, ap, subst, _∙_}
-use Prim.Native.Nat.{ℕ, suc, _+_, _*_, _≤_, _<_}
-use native.Mathlib.Nat.{mul-suc, mul-zero}
+use Prim.Native.Nat.{ℕ, _+_, _*_, _^_, _≤_, _<_}
+use native.Mathlib.Nat.{add-zero, suc-mul, zero-mul}
 use native.Mathlib.Numerals.{add-one}
 use native.Mathlib.Omega.{arith}
-use lib.ListN.{length, take, drop, getD, set, length-append}
+use lib.ListN.{length, take, drop, getD, length-append}
 use lib.Seq.{take-suc, take-at, take-all, length-take-le, sets, sets-eq, length-sets}
-use Rattle.state.specs.Layout.{each}
-use Rattle.state.specs.Parts.{Put}
-use Rattle.state.specs.Laws.Rows.{each-more}
+use borrow.Author.Tests.{le-leb}
+use Rattle.plain.specs.Answer.{gives}
+use Rattle.numbers.specs.Bytes.{bytesOf}
+use Rattle.numbers.specs.Slices.{Wrote, writeAt}
+use Rattle.numbers.specs.Laws.Bytes.{length-bytes}
+use Rattle.state.specs.Parts.{Part, All, each, number, row, Field, widthOf, FieldsFit, fieldBytes, fields}
+use Rattle.state.specs.Layout.{cell}
+use Rattle.state.specs.Places.{Put}
+use Rattle.state.specs.Promise.{Gives, filled}
+use Rattle.state.specs.Laws.Rows.{each-more, all-more}
 
-pub put-then : {l m k xs ys : List ℕ} {at n next w end : ℕ} → Put l at n xs m next → Put m next w ys k end → Put l at (n + w) (xs ++ ys) k end
-put-then {l} {m} {k} {xs} {ys} {at} {n} {next} {w} {end} p q =
-    let a : next ≡ at + n = p .next-is in
-    let b : end ≡ next + w = q .next-is in
+-- a number written inside the state
+pub number-put : (n v : ℕ) (l : List ℕ) (at : ℕ) (w : Wrote) → at + n ≤ length l → v < 2 ^ (8 * n) → w ≡ writeAt n v l at
+    → Put (number n) l at v (w .bytes) (at + n)
+unfolding writeAt
+number-put n v l at w inside fit e =
+    let vs : List ℕ = bytesOf n v in
+    let long : length vs ≡ n = length-bytes n v in
+    let written : w .bytes ≡ sets l at vs = ap (λ (x : Wrote). x .bytes) e ∙ simp (le-leb (at + n) (length l) inside) in
+    let front : length (take at l ++ vs) ≡ at + n = length-append (take at l) vs ∙ omega (arith, length-take-le at l (omega arith)) in
     record {
+      fit = fit;
+      next-is = refl;
+      bytes-are = ap (take (at + n)) (written ∙ sets-eq vs l at (omega arith)) ∙ take-at (take at l ++ vs) (drop (at + length vs) l) (at + n) front;
+      as-long = ap length written ∙ length-sets l at vs;
+    }
+
+-- `Putting part l from n xs m at i`: of a row of n elements that is put from its front, the first i have been put
+module _ {A : Type 0} (part : Part A) (l : List ℕ) (from n : ℕ) (xs : List A) where
+  pub record Putting (m : List ℕ) (at i : ℕ) : Type 0 where
+    pub in-row : i ≤ n
+    pub long : length xs ≡ n
+    pub done : Put (row i part) l from (take i xs) m at
+
+  pub putting-none : length xs ≡ n → Putting l from 0
+  unfolding each
+  putting-none long =
+      let none : 0 * part .width ≡ 0 = zero-mul (part .width) in
+      record {
+        in-row = omega arith;
+        long = long;
+        done = record { fit = (refl, tt); next-is = omega arith; bytes-are = sym (append-nil (take from l)); as-long = refl };
+      }
+
+  pub putting-more : {m : List ℕ} {at i : ℕ} → Putting m at i → i < n → (d : A) {k : List ℕ} {end : ℕ} → Put part m at (getD xs i d) k end → Putting k end (i + 1)
+  putting-more {m} {at} {i} p less d {k} {end} q =
+      let x : A = getD xs i d in
+      let long : length xs ≡ n = p .long in
+      let wider : i * part .width + part .width ≡ (i + 1) * part .width = sym (suc-mul i (part .width)) ∙ ap (λ (j : ℕ). j * part .width) (sym (add-one i)) in
+      let grown : take (i + 1) xs ≡ take i xs ++ (x ∷ []) = ap (λ (j : ℕ). take j xs) (add-one i) ∙ take-suc xs i d (omega arith) in
+      let here : at ≡ from + i * part .width = p .done .next-is in
+      let there : end ≡ at + part .width = q .next-is in
+      record {
+        in-row = omega arith;
+        long = long;
+        done =
+            record {
+              fit = (
+                length-take-le (i + 1) xs (omega arith),
+                subst (All (part .Fits)) (sym grown) (all-more (part .Fits) (take i xs) x (p .done .fit .1) (q .fit)),
+              );
+              next-is = omega arith;
+              bytes-are =
+                  q .bytes-are
+                  ∙ ap (λ (t : List ℕ). t ++ part .bytes x) (p .done .bytes-are)
+                  ∙ append-assoc (take from l) (each (part .bytes) (take i xs)) (part .bytes x)
+                  ∙ ap (λ (t : List ℕ). take from l ++ t) (sym (each-more (part .bytes) (take i xs) x) ∙ ap (each (part .bytes)) (sym grown));
+              as-long = q .as-long ∙ p .done .as-long;
+            };
+      }
+
+  pub putting-all : {m : List ℕ} {at i : ℕ} → Putting m at i → n ≤ i → Put (row n part) l from xs m at
+  putting-all {m} {at} {i} p end =
+      let all : i ≡ n = omega arith in
+      let long : length xs ≡ n = p .long in
+      subst (λ (k : ℕ). Put (row k part) l from xs m at) all (subst (λ (ys : List A). Put (row i part) l from ys m at) (take-all i xs (omega arith)) (p .done))
+
+-- a row of cells of a known length
+pub put-counted : (n : ℕ) (xs : List ℕ) {l m : List ℕ} {at next : ℕ} → n ≡ length xs → Put (row (length xs) cell) l at xs m next → Put (row n cell) l at xs m next
+put-counted n xs {l} {m} {at} {next} e p = subst (λ (k : ℕ). Put (row k cell) l at xs m next) (sym e) p
+
+-- the fields of a record, each put where the one before it ends
+infixr 5 _then_
+pub data Puts {A : Type 0} (a : A) : List (Field A) → List ℕ → ℕ → List ℕ → ℕ → Type 1 where
+  none : {l : List ℕ} {at : ℕ} → Puts a [] l at l at
+  _then_ : {f : Field A} {fs : List (Field A)} {l m k : List ℕ} {at next end : ℕ}
+      → Put (f .part) l at (f .get a) m next → Puts a fs m next k end → Puts a (f ∷ fs) l at k end
+
+pub fields-put : {A : Type 0} (fs : List (Field A)) (a : A) (l : List ℕ) (at : ℕ) (k : List ℕ) (end : ℕ) → Puts a fs l at k end → Put (fields fs) l at a k end
+unfolding fieldBytes
+fields-put [] a l at k end none = record { fit = tt; next-is = sym (add-zero at); bytes-are = sym (append-nil (take at l)); as-long = refl }
+fields-put (f ∷ fs) a l at k end (_then_ {m = m} {next = next} p ps) =
+    let q : Put (fields fs) m next a k end = fields-put fs a m next k end ps in
+    let here : next ≡ at + f .part .width = p .next-is in
+    let there : end ≡ next + widthOf fs = q .next-is in
+    record {
+      fit = (p .fit, q .fit);
       next-is = omega arith;
-      bytes-are = q .bytes-are ∙ ap (λ (t : List ℕ). t ++ ys) (p .bytes-are) ∙ append-assoc (take at l) xs ys;
+      bytes-are =
+          q .bytes-are
+          ∙ ap (λ (t : List ℕ). t ++ fieldBytes fs a) (p .bytes-are)
+          ∙ append-assoc (take at l) (f .part .bytes (f .get a)) (fieldBytes fs a);
       as-long = q .as-long ∙ p .as-long;
     }
 
--- what is left of the room that a function was promised
-pub room : {l m xs : List ℕ} {at n next : ℕ} → Put l at n xs m next → (promised w : ℕ) → n + w ≤ promised → at + promised ≤ length l
-    → next + w ≤ length m
-room {l} {m} {xs} {at} {n} {next} p promised w small h =
-    let a : next ≡ at + n = p .next-is in
-    let b : length m ≡ length l = p .as-long in
-    omega arith
-
--- a row of cells whose length is known
-pub put-counted : {l m added : List ℕ} {at next : ℕ} (n : ℕ) (xs : List ℕ) → n ≡ length xs → Put l at (4 * length xs) added m next
-    → Put l at (4 * n) added m next
-put-counted {l} {m} {added} {at} {next} n xs e p = subst (λ (k : ℕ). Put l at (4 * k) added m next) (sym e) p
-
 -- a buffer that is all put
-pub put-whole : {l m xs : List ℕ} {n next : ℕ} → Put l 0 n xs m next → length l ≡ n → m ≡ xs
-put-whole {l} {m} {xs} {n} {next} p long =
-    let end : next ≡ 0 + n = p .next-is in
+pub put-whole : {A : Type 0} (part : Part A) (x : A) (l m : List ℕ) {next : ℕ} → length l ≡ part .width → Put part l 0 x m next → Gives part x l (gives tt) m
+put-whole part x l m {next} long p =
+    let end : next ≡ 0 + part .width = p .next-is in
     let same : length m ≡ length l = p .as-long in
-    sym (take-all next m (omega arith)) ∙ p .bytes-are
-
--- four stores in a row
-pub put-four : (l : List ℕ) (at a b c d : ℕ) → at + 4 ≤ length l
-    → Put l at 4 (a ∷ b ∷ c ∷ d ∷ []) (set (set (set (set l at a) (at + 1) b) (at + 2) c) (at + 3) d) (at + 4)
-put-four l at a b c d h =
-    let vs : List ℕ = a ∷ b ∷ c ∷ d ∷ [] in
-    let e₁ : at + 1 ≡ suc at = omega arith in
-    let e₂ : at + 2 ≡ suc (suc at) = omega arith in
-    let e₃ : at + 3 ≡ suc (suc (suc at)) = omega arith in
-    let same : set (set (set (set l at a) (at + 1) b) (at + 2) c) (at + 3) d ≡ sets l at vs =
-    λ i. set (set (set (set l at a) (e₁ i) b) (e₂ i) c) (e₃ i) d in
-    let front : length (take at l) ≡ at = length-take-le at l (omega arith) in
-    let long : length (take at l ++ vs) ≡ at + 4 = length-append (take at l) vs ∙ ap (λ (k : ℕ). k + 4) front in
-    record {
-      next-is = refl;
-      bytes-are = ap (take (at + 4)) (same ∙ sets-eq vs l at h) ∙ take-at (take at l ++ vs) (drop (at + 4) l) (at + 4) long;
-      as-long = ap length same ∙ length-sets l at vs;
-    }
-
--- a row that is put from its front
-module _ {A : Type 0} (bytes : A → List ℕ) (width : ℕ) (l : List ℕ) (from : ℕ) where
-  abbrev pub RowPut : List A → List ℕ → ℕ → ℕ → Type 0
-  RowPut xs m at i = Put l from (width * i) (each bytes (take i xs)) m at
-
-  pub row-none : (xs : List A) → RowPut xs l from 0
-  unfolding each
-  row-none xs =
-      let none : width * 0 ≡ 0 = mul-zero width in
-      record { next-is = omega arith; bytes-are = sym (append-nil (take from l)); as-long = refl }
-
-  pub row-more : (xs : List A) (d : A) (i : ℕ) (m k : List ℕ) (at end : ℕ) → i < length xs → RowPut xs m at i
-      → Put m at width (bytes (getD xs i d)) k end → RowPut xs k end (i + 1)
-  row-more xs d i m k at end h p q =
-      let wider : width * i + width ≡ width * (i + 1) = sym (mul-suc width i) ∙ ap (λ (n : ℕ). width * n) (sym (add-one i)) in
-      let grown : each bytes (take i xs) ++ bytes (getD xs i d) ≡ each bytes (take (i + 1) xs) =
-      sym (each-more bytes (take i xs) (getD xs i d)) ∙ ap (each bytes) (sym (take-suc xs i d h) ∙ ap (λ (n : ℕ). take n xs) (sym (add-one i))) in
-      subst (λ (w : ℕ). Put l from w (each bytes (take (i + 1) xs)) k end) wider
-      (subst (λ (t : List ℕ). Put l from (width * i + width) t k end) grown (put-then p q))
-
-  pub row-all : (xs : List A) (i n : ℕ) (m : List ℕ) (at : ℕ) → i ≡ n → length xs ≡ n → RowPut xs m at i → Put l from (width * n) (each bytes xs) m at
-  row-all xs i n m at e long p =
-      let whole : take i xs ≡ xs = take-all i xs (omega arith) in
-      subst (λ (k : ℕ). Put l from (width * k) (each bytes xs) m at) e
-      (subst (λ (ys : List A). Put l from (width * i) (each bytes ys) m at) whole p)
+    subst (Gives part x l (gives tt)) (sym (p .bytes-are) ∙ take-all next m (omega arith)) (filled long (p .fit))

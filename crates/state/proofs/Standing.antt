@@ -1,83 +1,127 @@
--- A frame, a level, the links and a machine stand where their parts stand one after the other.
-use mathlib.Core.List.{List, _++_}
-use mathlib.Core.Path.{_≡_, refl, _∙_}
-use Prim.Native.Nat.{ℕ, _+_, _≤_}
-use lib.ListN.{length}
-use lib.Seq.{take-all}
-use Rattle.links.specs.declared.Frame.{Frame}
-use Rattle.links.specs.declared.Level.{Level}
-use Rattle.links.specs.declared.Links.{Links}
-use Rattle.machine.specs.declared.Machine.{Machine}
-use Rattle.state.specs.Layout.{cell, pointer, each, frameBytes, levelBytes, linksBytes, stateBytes}
-use Rattle.state.specs.Fitting.{Fits}
-use Rattle.state.specs.Parts.{CellAt, PointerAt, CellsAt, FrameAt, FramesAt, LevelAt, LevelsAt, LinksAt}
-use Rattle.state.proofs.Filling.{followed}
+-- Laws of parts that stand in a state: a number that was read, a row that is filled, the fields of a record one after the other.
+use mathlib.Core.List.{List, [], _∷_, _++_}
+use mathlib.Core.Path.{_≡_, refl, sym, ap, subst, _∙_}
+use Prim.Native.Nat.{ℕ, suc, _+_, _*_, _≤_, _<_}
+use native.Mathlib.Nat.{suc-mul, zero-mul}
+use native.Mathlib.Numerals.{add-one}
+use native.Mathlib.Omega.{arith}
+use lib.ListN.{length, take, drop, set, length-set}
+use lib.Seq.{drop-drop, take-add, take-suc-set, take-all, length-take-le}
+use borrow.Author.Tests.{le-leb}
+use Rattle.plain.specs.Answer.{Answer, refuses, gives}
+use Rattle.numbers.specs.Bytes.{numberAt}
+use Rattle.numbers.specs.Slices.{readAt}
+use Rattle.numbers.specs.Laws.Bytes.{Bytes, number-below, spelled-number}
+use Rattle.state.specs.Parts.{Part, All, each, number, row, Field, widthOf, FieldsFit, fieldBytes, fields}
+use Rattle.state.specs.Places.{Stands}
+use Rattle.state.specs.Laws.Rows.{each-more, all-more}
 
-pub frame-stands : (s : List ℕ) (at : ℕ) (f : Frame)
-    → CellsAt 16 s at (f .locals) → PointerAt s (at + 64) (f .r) → CellAt s (at + 72) (f .address) → FrameAt s at f
-unfolding frameBytes
-frame-stands s at f locals r address =
+-- a number read inside the state
+module _ (n : ℕ) (s : List ℕ) (at : ℕ) (inside : at + n ≤ length s) where
+  read-is : readAt n s at ≡ gives (numberAt n s at)
+  unfolding readAt
+  read-is = simp (le-leb (at + n) (length s) inside)
+
+  pub number-stands : Bytes s → (v : ℕ) → gives v ≡ readAt n s at → Stands (number n) s at v
+  number-stands bytes v e =
+      let read = read-is in
+      let is : v ≡ numberAt n s at = cc in
+      record {
+        fit = subst (number n .Fits) (sym is) (number-below n s at bytes);
+        spelled = ap (number n .bytes) is ∙ spelled-number n s at bytes inside;
+      }
+
+  pub never-outside : (answer : ℕ) → refuses answer ≡ readAt n s at → ⊥
+  never-outside answer e =
+      let read = read-is in
+      let z : _≡_ {A = ℕ} 0 1 = cc in
+      omega arith
+
+-- bytes, and those that begin where they end
+followed : (s x y : List ℕ) (at n next m w : ℕ) → at + n ≡ next → n + m ≡ w
+    → x ≡ take n (drop at s) → y ≡ take m (drop next s) → x ++ y ≡ take w (drop at s)
+followed s x y at n next m w e f hx hy =
+    ap (λ (l : List ℕ). l ++ y) hx
+    ∙ ap (λ (l : List ℕ). take n (drop at s) ++ l) (hy ∙ ap (λ (k : ℕ). take m (drop k s)) (sym e) ∙ ap (take m) (sym (drop-drop n at s)))
+    ∙ sym (take-add n m (drop at s))
+    ∙ ap (λ (k : ℕ). take k (drop at s)) f
+
+-- `Filling part s from n xs i`: of a row of n elements that is filled from its front, the first i stand in the state
+module _ {A : Type 0} (part : Part A) (s : List ℕ) (from n : ℕ) where
+  pub record Filling (xs : List A) (i : ℕ) : Type 0 where
+    pub in-row : i ≤ n
+    pub long : length xs ≡ n
+    pub filled : Stands (row i part) s from (take i xs)
+
+  pub filling-none : (xs : List A) → length xs ≡ n → Filling xs 0
+  unfolding each
+  filling-none xs long =
+      record {
+        in-row = omega arith;
+        long = long;
+        filled = record { fit = (refl, tt); spelled = ap (λ (k : ℕ). take k (drop from s)) (sym (zero-mul (part .width))) };
+      }
+
+  pub filling-more : {xs : List A} {i : ℕ} → Filling xs i → i < n → (x : A) → Stands part s (from + i * part .width) x → Filling (set xs i x) (i + 1)
+  filling-more {xs} {i} f less x t =
+      let within : i < length xs = omega arith in
+      let long : length (set xs i x) ≡ n = length-set xs i x ∙ f .long in
+      let grown : take (i + 1) (set xs i x) ≡ take i xs ++ (x ∷ []) =
+      ap (λ (k : ℕ). take k (set xs i x)) (add-one i) ∙ take-suc-set xs i x within in
+      let wider : i * part .width + part .width ≡ (i + 1) * part .width = sym (suc-mul i (part .width)) ∙ ap (λ (k : ℕ). k * part .width) (sym (add-one i)) in
+      record {
+        in-row = omega arith;
+        long = long;
+        filled =
+            record {
+              fit = (
+                length-take-le (i + 1) (set xs i x) (omega arith),
+                subst (All (part .Fits)) (sym grown) (all-more (part .Fits) (take i xs) x (f .filled .fit .1) (t .fit)),
+              );
+              spelled =
+                  ap (each (part .bytes)) grown
+                  ∙ each-more (part .bytes) (take i xs) x
+                  ∙ followed s (each (part .bytes) (take i xs)) (part .bytes x) from (i * part .width) (from + i * part .width) (part .width) ((i + 1) * part .width)
+                  refl wider (f .filled .spelled) (t .spelled);
+            };
+      }
+
+  pub filling-all : {xs : List A} {i : ℕ} → Filling xs i → n ≤ i → Stands (row n part) s from xs
+  filling-all {xs} {i} f end =
+      let all : i ≡ n = omega arith in
+      let long : length xs ≡ n = f .long in
+      subst (λ (k : ℕ). Stands (row k part) s from xs) all (subst (Stands (row i part) s from) (take-all i xs (omega arith)) (f .filled))
+
+-- each field stands so many bytes after the place, where the one before it ends
+abbrev pub StandAfter : {A : Type 0} → List (Field A) → List ℕ → ℕ → ℕ → A → Type 0
+StandAfter [] s at n a = Unit {0}
+StandAfter (f ∷ fs) s at n a = Stands (f .part) s (at + n) (f .get a) × StandAfter fs s at (n + f .part .width) a
+
+after-fit : {A : Type 0} (fs : List (Field A)) (s : List ℕ) (at n : ℕ) (a : A) → StandAfter fs s at n a → FieldsFit fs a
+after-fit [] s at n a h = tt
+after-fit (f ∷ fs) s at n a h = (h .0 .fit, after-fit fs s at (n + f .part .width) a (h .1))
+
+after-spelled : {A : Type 0} (fs : List (Field A)) (s : List ℕ) (at n : ℕ) (a : A) → StandAfter fs s at n a
+    → fieldBytes fs a ≡ take (widthOf fs) (drop (at + n) s)
+unfolding fieldBytes
+after-spelled [] s at n a h = refl
+after-spelled (f ∷ fs) s at n a h =
+    let next : at + n + f .part .width ≡ at + (n + f .part .width) = omega arith in
+    followed s (f .part .bytes (f .get a)) (fieldBytes fs a) (at + n) (f .part .width) (at + (n + f .part .width)) (widthOf fs) (widthOf (f ∷ fs))
+    next refl (h .0 .spelled) (after-spelled fs s at (n + f .part .width) a (h .1))
+
+-- the first field at the place itself, the others after it
+abbrev pub StandAll : {A : Type 0} → List (Field A) → List ℕ → ℕ → A → Type 0
+StandAll [] s at a = Unit {0}
+StandAll (f ∷ fs) s at a = Stands (f .part) s at (f .get a) × StandAfter fs s at (f .part .width) a
+
+pub fields-stand : {A : Type 0} (fs : List (Field A)) (s : List ℕ) (at : ℕ) (a : A) → StandAll fs s at a → Stands (fields fs) s at a
+unfolding fieldBytes
+fields-stand [] s at a h = record { fit = tt; spelled = refl }
+fields-stand (f ∷ fs) s at a h =
     record {
-      fit = record { locals-fit = locals .fit; r-fits = r .fit; address-fits = address .fit };
+      fit = (h .0 .fit, after-fit fs s at (f .part .width) a (h .1));
       spelled =
-          followed s (each cell (f .locals) ++ pointer (f .r)) (cell (f .address)) at 72 (at + 72) 4 76 refl refl
-          (followed s (each cell (f .locals)) (pointer (f .r)) at 64 (at + 64) 8 72 refl refl (locals .spelled) (r .spelled)) (address .spelled);
+          followed s (f .part .bytes (f .get a)) (fieldBytes fs a) at (f .part .width) (at + f .part .width) (widthOf fs) (widthOf (f ∷ fs))
+          refl refl (h .0 .spelled) (after-spelled fs s at (f .part .width) a (h .1));
     }
-
-pub level-stands : (s : List ℕ) (at : ℕ) (l : Level)
-    → CellsAt 8 s at (l .cells) → PointerAt s (at + 32) (l .s) → PointerAt s (at + 40) (l .p) → CellAt s (at + 48) (l .address) → LevelAt s at l
-unfolding levelBytes
-level-stands state at l cells s p address =
-    let two = followed state (each cell (l .cells)) (pointer (l .s)) at 32 (at + 32) 8 40 refl refl (cells .spelled) (s .spelled) in
-    let three = followed state (each cell (l .cells) ++ pointer (l .s)) (pointer (l .p)) at 40 (at + 40) 8 48 refl refl two (p .spelled) in
-    record {
-      fit = record { cells-fit = cells .fit; s-fits = s .fit; p-fits = p .fit; address-fits = address .fit };
-      spelled =
-          followed state (each cell (l .cells) ++ pointer (l .s) ++ pointer (l .p)) (cell (l .address)) at 48 (at + 48) 4 52 refl refl three (address .spelled);
-    }
-
-pub links-stand : (state : List ℕ) (at : ℕ) (l : Links)
-    → CellsAt 64 state at (l .returns) → PointerAt state (at + 256) (l .r) → FramesAt state (at + 264) (l .frames)
-    → PointerAt state (at + 2772) (l .s) → LevelsAt state (at + 2780) (l .levels) → PointerAt state (at + 3248) (l .e) → LinksAt state at l
-unfolding linksBytes
-links-stand state at l returns r frames s levels e =
-    let one : List ℕ = each cell (l .returns) in
-    let two : List ℕ = one ++ pointer (l .r) in
-    let three : List ℕ = two ++ each frameBytes (l .frames) in
-    let four : List ℕ = three ++ pointer (l .s) in
-    let five : List ℕ = four ++ each levelBytes (l .levels) in
-    let at-two = followed state one (pointer (l .r)) at 256 (at + 256) 8 264 refl refl (returns .spelled) (r .spelled) in
-    let at-three = followed state two (each frameBytes (l .frames)) at 264 (at + 264) 2508 2772 refl refl at-two (frames .spelled) in
-    let at-four = followed state three (pointer (l .s)) at 2772 (at + 2772) 8 2780 refl refl at-three (s .spelled) in
-    let at-five = followed state four (each levelBytes (l .levels)) at 2780 (at + 2780) 468 3248 refl refl at-four (levels .spelled) in
-    record {
-      fit =
-          record {
-            returns-fit = returns .fit;
-            r-fits = r .fit;
-            frames-fit = frames .fit;
-            s-fits = s .fit;
-            levels-fit = levels .fit;
-            e-fits = e .fit;
-          };
-      spelled = followed state five (pointer (l .e)) at 3248 (at + 3248) 8 3256 refl refl at-five (e .spelled);
-    }
-
-module _ (state : List ℕ) (m : Machine) (cells : CellsAt 64 state 0 (m .cells)) (p : PointerAt state 256 (m .p))
-    (links : LinksAt state 264 (m .links)) (counter : CellAt state 3520 (m .counter)) (flag : CellAt state 3524 (m .flag)) where
-  pub machine-fits : Fits m
-  machine-fits =
-      record
-      { cells-fit = cells .fit; p-fits = p .fit; links-fit = links .fit; counter-fits = counter .fit; flag-fits = flag .fit }
-
-  pub machine-spells : length state ≤ 3528 → stateBytes m ≡ state
-  unfolding stateBytes
-  machine-spells long =
-      let one : List ℕ = each cell (m .cells) in
-      let two : List ℕ = one ++ pointer (m .p) in
-      let three : List ℕ = two ++ linksBytes (m .links) in
-      let four : List ℕ = three ++ cell (m .counter) in
-      let at-two = followed state one (pointer (m .p)) 0 256 256 8 264 refl refl (cells .spelled) (p .spelled) in
-      let at-three = followed state two (linksBytes (m .links)) 0 264 264 3256 3520 refl refl at-two (links .spelled) in
-      let at-four = followed state three (cell (m .counter)) 0 3520 3520 4 3524 refl refl at-three (counter .spelled) in
-      followed state four (cell (m .flag)) 0 3524 3524 4 3528 refl refl at-four (flag .spelled) ∙ take-all 3528 state long

@@ -1,49 +1,67 @@
--- A whole machine as bytes. Every number is big endian; a cell takes 4 bytes, a pointer or a copy of one takes 8.
-use mathlib.Core.List.{List, [], _∷_, _++_}
-use Prim.Native.Nat.{ℕ, _/_, _%_, _^_}
+-- A whole machine as bytes, and what its run counted. What joins the machine stands at the end of its list.
+use mathlib.Core.List.{List, [], _∷_}
+use Prim.Native.Nat.{ℕ}
+use Rattle.links.specs.Depths.{cellsDepth, returnsDepth, framesCount, levelsCount, localsCount, levelCells}
 use Rattle.links.specs.declared.Frame.{Frame}
 use Rattle.links.specs.declared.Level.{Level}
 use Rattle.links.specs.declared.Links.{Links}
 use Rattle.machine.specs.declared.Machine.{Machine}
-use Rattle.machine.specs.declared.Width.the-variants.{Long}
-use Rattle.machine.specs.Memory.{bytesOf}
+use Rattle.machine.specs.declared.Steps.{Steps}
+use Rattle.machine.specs.declared.Cycles.{Cycles}
+use Rattle.state.specs.Parts.{Part, Field, _of_, number, row, fields}
 
-unfoldable pub cell : ℕ → List ℕ
-cell v = bytesOf Long v
+abbrev pub cell : Part ℕ
+cell = number 4
 
-unfoldable pub pointer : ℕ → List ℕ
-pointer v = cell (v / 2 ^ 32) ++ cell (v % 2 ^ 32)
+-- a stack pointer or a copy of one
+abbrev pub pointer : Part ℕ
+pointer = number 8
 
--- the bytes of each element, one after the other
-unfoldable pub each : {A : Type 0} → (A → List ℕ) → List A → List ℕ
-each bytes [] = []
-each bytes (x ∷ xs) = bytes x ++ each bytes xs
+abbrev pub frameFields : List (Field Frame)
+frameFields = row localsCount cell of (λ f. f .locals) ∷ pointer of (λ f. f .r) ∷ cell of (λ f. f .address) ∷ []
 
-unfoldable pub frameBytes : Frame → List ℕ
-frameBytes f = each cell (f .locals) ++ pointer (f .r) ++ cell (f .address)
+abbrev pub frame : Part Frame
+frame = fields frameFields
 
-unfoldable pub levelBytes : Level → List ℕ
-levelBytes l = each cell (l .cells) ++ pointer (l .s) ++ pointer (l .p) ++ cell (l .address)
+abbrev pub levelFields : List (Field Level)
+levelFields = row levelCells cell of (λ l. l .cells) ∷ pointer of (λ l. l .s) ∷ pointer of (λ l. l .p) ∷ cell of (λ l. l .address) ∷ []
 
-unfoldable pub linksBytes : Links → List ℕ
-linksBytes l =
-    each cell (l .returns)
-    ++ pointer (l .r)
-    ++ each frameBytes (l .frames)
-    ++ pointer (l .s)
-    ++ each levelBytes (l .levels)
-    ++ pointer (l .e)
+abbrev pub level : Part Level
+level = fields levelFields
 
-unfoldable pub stateBytes : Machine → List ℕ
-stateBytes m = each cell (m .cells) ++ pointer (m .p) ++ linksBytes (m .links) ++ cell (m .counter) ++ cell (m .flag)
+abbrev pub linksFields : List (Field Links)
+linksFields =
+    row returnsDepth cell of (λ l. l .returns)
+    ∷ pointer of (λ l. l .r)
+    ∷ row framesCount frame of (λ l. l .frames)
+    ∷ pointer of (λ l. l .s)
+    ∷ row levelsCount level of (λ l. l .levels)
+    ∷ pointer of (λ l. l .e)
+    ∷ []
 
--- how many bytes that is
-abbrev pub stateSize : ℕ
-stateSize = 3528
+abbrev pub links : Part Links
+links = fields linksFields
 
--- what a run counted: its answer, steps and cycles, each as a pointer is
-unfoldable pub numbersOf : ℕ → ℕ → ℕ → List ℕ
-numbersOf answer steps cycles = pointer answer ++ pointer steps ++ pointer cycles
+abbrev pub stateFields : List (Field Machine)
+stateFields =
+    row cellsDepth cell of (λ m. m .cells)
+    ∷ pointer of (λ m. m .p)
+    ∷ links of (λ m. m .links)
+    ∷ cell of (λ m. m .counter)
+    ∷ cell of (λ m. m .flag)
+    ∷ []
 
-abbrev pub resultSize : ℕ
-resultSize = 24
+abbrev pub state : Part Machine
+state = fields stateFields
+
+-- what a run counted, each number as wide as a pointer
+pub record Counted : Type 0 where
+  pub answer : ℕ
+  pub steps : Steps
+  pub cycles : Cycles
+
+abbrev pub resultFields : List (Field Counted)
+resultFields = pointer of (λ c. c .answer) ∷ pointer of (λ c. c .steps .0) ∷ pointer of (λ c. c .cycles .0) ∷ []
+
+abbrev pub result : Part Counted
+result = fields resultFields

@@ -1,45 +1,60 @@
--- What the functions on a part of a state promise each other.
-use mathlib.Core.List.{List, _++_}
+-- How a part of a state stands in bytes: a number, a row of one kind of part, or the fields of a record.
+use mathlib.Core.List.{List, [], _∷_, _++_}
 use mathlib.Core.Path.{_≡_}
-use Prim.Native.Nat.{ℕ, _+_, _*_}
-use lib.ListN.{length, take, drop}
-use Rattle.state.specs.Layout.{cell, pointer, each, frameBytes, levelBytes, linksBytes}
-use Rattle.state.specs.Fitting.{Row, CellFits, PointerFits, FrameFits, LevelFits, LinksFit}
-use Rattle.links.specs.declared.Frame.{Frame}
-use Rattle.links.specs.declared.Level.{Level}
-use Rattle.links.specs.declared.Links.{Links}
+use Prim.Native.Nat.{ℕ, _+_, _*_, _^_, _<_}
+use lib.ListN.{length}
+use Rattle.numbers.specs.Bytes.{bytesOf}
 
--- `Stands Fit bytes width state at x`: x fits, and its bytes are the width bytes of the state from the place on
-pub record Stands {A : Type 0} (Fit : A → Type 0) (bytes : A → List ℕ) (width : ℕ) (state : List ℕ) (at : ℕ) (x : A) : Type 0 where
-  pub fit : Fit x
-  pub spelled : bytes x ≡ take width (drop at state)
+-- how many bytes it takes, which values they can carry, and the bytes of such a value
+pub record Part (A : Type 0) : Type 1 where
+  pub width : ℕ
+  pub Fits : A → Type 0
+  pub bytes : A → List ℕ
 
-abbrev pub CellAt : List ℕ → ℕ → ℕ → Type 0
-CellAt = Stands CellFits cell 4
+-- a number of so many bytes, the highest first
+abbrev pub number : ℕ → Part ℕ
+number n = record { width = n; Fits = λ v. v < 2 ^ (8 * n); bytes = bytesOf n }
 
-abbrev pub PointerAt : List ℕ → ℕ → ℕ → Type 0
-PointerAt = Stands PointerFits pointer 8
+-- each element fits; the bytes of each element, one after the other
+abbrev pub All : {A : Type 0} → (A → Type 0) → List A → Type 0
+All Fits [] = Unit {0}
+All Fits (x ∷ xs) = Fits x × All Fits xs
 
-abbrev pub CellsAt : ℕ → List ℕ → ℕ → List ℕ → Type 0
-CellsAt n = Stands (Row n CellFits) (each cell) (4 * n)
+unfoldable pub each : {A : Type 0} → (A → List ℕ) → List A → List ℕ
+each bytes [] = []
+each bytes (x ∷ xs) = bytes x ++ each bytes xs
 
-abbrev pub FrameAt : List ℕ → ℕ → Frame → Type 0
-FrameAt = Stands FrameFits frameBytes 76
+-- so many parts of one kind
+abbrev pub row : {A : Type 0} → ℕ → Part A → Part (List A)
+row n part =
+    record {
+      width = n * part .width;
+      Fits = λ xs. (length xs ≡ n) × All (part .Fits) xs;
+      bytes = each (part .bytes);
+    }
 
-abbrev pub FramesAt : List ℕ → ℕ → List Frame → Type 0
-FramesAt = Stands (Row 33 FrameFits) (each frameBytes) 2508
+-- a field of a record, and the part that holds it
+pub record Field (A : Type 0) : Type 1 where
+  pub Held : Type 0
+  pub part : Part Held
+  pub get : A → Held
 
-abbrev pub LevelAt : List ℕ → ℕ → Level → Type 0
-LevelAt = Stands LevelFits levelBytes 52
+infix 68 _of_
+abbrev pub _of_ : {A B : Type 0} → Part B → (A → B) → Field A
+_of_ {A} {B} part get = record { Held = B; part = part; get = get }
 
-abbrev pub LevelsAt : List ℕ → ℕ → List Level → Type 0
-LevelsAt = Stands (Row 9 LevelFits) (each levelBytes) 468
+abbrev pub widthOf : {A : Type 0} → List (Field A) → ℕ
+widthOf [] = 0
+widthOf (f ∷ fs) = f .part .width + widthOf fs
 
-abbrev pub LinksAt : List ℕ → ℕ → Links → Type 0
-LinksAt = Stands LinksFit linksBytes 3256
+abbrev pub FieldsFit : {A : Type 0} → List (Field A) → A → Type 0
+FieldsFit [] a = Unit {0}
+FieldsFit (f ∷ fs) a = f .part .Fits (f .get a) × FieldsFit fs a
 
--- `Put before at width added after next`: the bytes added end width bytes after the place, and stand there after the bytes before it
-pub record Put (before : List ℕ) (at width : ℕ) (added after : List ℕ) (next : ℕ) : Type 0 where
-  pub next-is : next ≡ at + width
-  pub bytes-are : take next after ≡ take at before ++ added
-  pub as-long : length after ≡ length before
+unfoldable pub fieldBytes : {A : Type 0} → List (Field A) → A → List ℕ
+fieldBytes [] a = []
+fieldBytes (f ∷ fs) a = f .part .bytes (f .get a) ++ fieldBytes fs a
+
+-- the fields of a record, one after the other
+abbrev pub fields : {A : Type 0} → List (Field A) → Part A
+fields fs = record { width = widthOf fs; Fits = FieldsFit fs; bytes = fieldBytes fs }

@@ -4,9 +4,13 @@ mod places;
 mod reading;
 mod writing;
 
+use machine::Cycles;
 use machine::Machine;
-ghost use mathlib.Core.Path.{_≡_};
-ghost use Rattle.state.specs.Promise.{Takes, givenOf, countsOf, refusedWith};
+use machine::Steps;
+pub use places::RESULT;
+pub use places::SIZE;
+ghost use Rattle.state.specs.Layout as layout;
+ghost use Rattle.state.specs.Promise.{saysVerdict, Takes, Gives};
 
 // A buffer of the right length has no answer number.
 pub enum Verdict {
@@ -20,29 +24,23 @@ pub struct Taken {
     pub machine: Machine,
 }
 
-fn refused(number: u32) -> Taken
-    ensures { λ r. ⌜ r ≡ refusedWith number ⌝ }
-{
-    let machine = Machine::fresh();
-    Taken {
-        verdict: Verdict::Refused(number),
-        machine,
-    }
-}
-
 // Every buffer of the right length spells one machine, well formed or not: a run judges that.
 pub fn take(state: &[u8]) -> Taken
-    ensures { λ r. ⌜ Takes (now (state .entry)) r ⌝ }
+    ensures { λ r. ⌜ Takes (now (state .entry)) (saysVerdict (r .verdict)) (r .machine) ⌝ }
 {
-    if state.len() != places::SIZE {
-        return refused(2);
+    if state.len() != SIZE {
+        let machine = Machine::fresh();
+        return Taken {
+            verdict: Verdict::Refused(2),
+            machine,
+        };
     }
-    let mut cells = [0u32; 64];
-    reading::fill(state, places::CELLS, &mut cells);
-    let p = reading::pointer_at(state, places::P);
-    let links = reading::links_at(state, places::LINKS);
-    let counter = reading::cell_at(state, places::COUNTER);
-    let flag = reading::cell_at(state, places::FLAG);
+    let mut cells = [0u32; Machine::CELLS];
+    reading::fill(state, places::STATE_CELLS, &mut cells);
+    let p = reading::pointer_at(state, places::STATE_P);
+    let links = reading::links_at(state, places::STATE_LINKS);
+    let counter = reading::cell_at(state, places::STATE_COUNTER);
+    let flag = reading::cell_at(state, places::STATE_FLAG);
     let machine = Machine {
         cells,
         p,
@@ -58,14 +56,14 @@ pub fn take(state: &[u8]) -> Taken
 
 // The whole buffer is written, or nothing of it.
 pub fn give(machine: Machine, state: &mut [u8]) -> Verdict
-    ensures { λ r. ⌜ record { verdict = r; buffer = now (state .exit) } ≡ givenOf machine (now (state .entry)) ⌝ }
+    ensures { λ r. ⌜ Gives layout.state machine (now (state .entry)) (saysVerdict r) (now (state .exit)) ⌝ }
 {
-    if state.len() != places::SIZE {
+    if state.len() != SIZE {
         return Verdict::Refused(2);
     }
     let cells = machine.cells;
     let links = machine.links;
-    let after_cells = writing::put_row(state, places::CELLS, &cells);
+    let after_cells = writing::put_row(state, places::STATE_CELLS, &cells);
     let after_p = writing::put_pointer(state, after_cells, machine.p);
     let after_links = writing::put_links(state, after_p, links);
     let after_counter = writing::put_cell(state, after_links, machine.counter);
@@ -73,15 +71,15 @@ pub fn give(machine: Machine, state: &mut [u8]) -> Verdict
     Verdict::Good
 }
 
-// What a run counted, as three numbers of 8 bytes. The whole buffer is written, or nothing of it.
-pub fn give_counts(answer: u32, steps: u32, cycles: u32, result: &mut [u8]) -> Verdict
-    ensures { λ r. ⌜ record { verdict = r; buffer = now (result .exit) } ≡ countsOf answer steps cycles (now (result .entry)) ⌝ }
+// What a run counted. The whole buffer is written, or nothing of it.
+pub fn give_counts(answer: u32, steps: Steps, cycles: Cycles, result: &mut [u8]) -> Verdict
+    ensures { λ r. ⌜ Gives layout.result (record { answer = answer; steps = steps; cycles = cycles }) (now (result .entry)) (saysVerdict r) (now (result .exit)) ⌝ }
 {
-    if result.len() != places::RESULT {
+    if result.len() != RESULT {
         return Verdict::Refused(2);
     }
     let after_answer = writing::put_pointer(result, 0, answer as usize);
-    let after_steps = writing::put_pointer(result, after_answer, steps as usize);
-    writing::put_pointer(result, after_steps, cycles as usize);
+    let after_steps = writing::put_pointer(result, after_answer, steps.0 as usize);
+    writing::put_pointer(result, after_steps, cycles.0 as usize);
     Verdict::Good
 }

@@ -1,16 +1,55 @@
-// Where each part of a state begins.
-pub(crate) const CELLS: usize = 0;
+// How many bytes each part of a state takes, and where its own parts begin: each right after the one before it.
+use links::Frame;
+use links::Level;
+use links::Links;
+use machine::Machine;
 
-pub(crate) const P: usize = 256;
+pub(crate) const CELL: usize = 4;
 
-pub(crate) const LINKS: usize = 264;
+// A stack pointer or a copy of one.
+pub(crate) const POINTER: usize = 8;
 
-pub(crate) const COUNTER: usize = 3520;
+// A subroutine level: locals, copy of R, return address.
+pub(crate) const FRAME_R: usize = Frame::LOCALS * CELL;
 
-pub(crate) const FLAG: usize = 3524;
+pub(crate) const FRAME_ADDRESS: usize = FRAME_R + POINTER;
 
-// How long a state is.
-pub(crate) const SIZE: usize = 3528;
+pub(crate) const FRAME: usize = FRAME_ADDRESS + CELL;
 
-// How long the three numbers of a run are.
-pub(crate) const RESULT: usize = 24;
+// An exception level: cells, copies of S and of P, throw address.
+pub(crate) const LEVEL_S: usize = Level::CELLS * CELL;
+
+pub(crate) const LEVEL_P: usize = LEVEL_S + POINTER;
+
+pub(crate) const LEVEL_ADDRESS: usize = LEVEL_P + POINTER;
+
+pub(crate) const LEVEL: usize = LEVEL_ADDRESS + CELL;
+
+// The linked stacks: return cells, R, frames, S, exception levels, E.
+pub(crate) const LINKS_R: usize = Links::RETURNS * CELL;
+
+pub(crate) const LINKS_FRAMES: usize = LINKS_R + POINTER;
+
+pub(crate) const LINKS_S: usize = LINKS_FRAMES + Links::FRAMES * FRAME;
+
+pub(crate) const LINKS_LEVELS: usize = LINKS_S + POINTER;
+
+pub(crate) const LINKS_E: usize = LINKS_LEVELS + Links::LEVELS * LEVEL;
+
+pub(crate) const LINKS: usize = LINKS_E + POINTER;
+
+// The machine: parameter cells, P, linked stacks, counter, flag.
+pub(crate) const STATE_CELLS: usize = 0;
+
+pub(crate) const STATE_P: usize = STATE_CELLS + Machine::CELLS * CELL;
+
+pub(crate) const STATE_LINKS: usize = STATE_P + POINTER;
+
+pub(crate) const STATE_COUNTER: usize = STATE_LINKS + LINKS;
+
+pub(crate) const STATE_FLAG: usize = STATE_COUNTER + CELL;
+
+pub const SIZE: usize = STATE_FLAG + CELL;
+
+// What a run counted: answer, steps and cycles, each as wide as a pointer.
+pub const RESULT: usize = 3 * POINTER;

@@ -1,66 +1,70 @@
 // Reads the parts of a state: each function at a place that its caller keeps inside the buffer.
-// A pointer takes 8 bytes, a frame 76, a level 52, and the three linked stacks 3,256.
+use crate::places;
 use links::Frame;
 use links::Level;
 use links::Links;
-ghost use mathlib.Core.Path.{_≡_};
-ghost use Prim.Native.Nat.{_+_, _*_, _^_, _≤_};
+ghost use Prim.Native.Nat.{_+_, _≤_};
 ghost use lib.ListN.{length};
-ghost use Rattle.state.specs.Parts.{CellAt, PointerAt, CellsAt, FrameAt, FramesAt, LevelAt, LevelsAt, LinksAt};
+ghost use Rattle.links.specs.Depths.{framesCount, levelsCount};
+ghost use Rattle.state.specs.Parts.{row};
+ghost use Rattle.state.specs.Layout.{cell, pointer, frame, level, links};
+ghost use Rattle.state.specs.Places.{Stands};
 
-// Four bytes as a number, the highest first.
-fn joined(a: u8, b: u8, c: u8, d: u8) -> u32
-    ensures { λ r. ⌜ r ≡ a * 2 ^ 24 + b * 2 ^ 16 + c * 2 ^ 8 + d ⌝ }
-{
-    a as u32 * 0x1000000 + b as u32 * 0x10000 + c as u32 * 0x100 + d as u32
-}
-
+// No place is outside: the answer that says so never comes.
 pub(crate) fn cell_at(state: &[u8], at: usize) -> u32
-    requires { ⌜ at + 4 ≤ length (now state) ⌝ }
-    ensures { λ r. ⌜ CellAt (now (state .entry)) at r ⌝ }
+    requires { ⌜ at + cell .width ≤ length (now state) ⌝ }
+    ensures { λ r. ⌜ Stands cell (now (state .entry)) at r ⌝ }
 {
-    joined(state[at], state[at + 1], state[at + 2], state[at + 3])
+    let found = numbers::read_four(state, at);
+    let numbers::Found::Number(value) = found else {
+        return 0;
+    };
+    value
 }
 
 pub(crate) fn pointer_at(state: &[u8], at: usize) -> usize
-    requires { ⌜ at + 8 ≤ length (now state) ⌝ }
-    ensures { λ r. ⌜ PointerAt (now (state .entry)) at r ⌝ }
+    requires { ⌜ at + pointer .width ≤ length (now state) ⌝ }
+    ensures { λ r. ⌜ Stands pointer (now (state .entry)) at r ⌝ }
 {
-    cell_at(state, at) as usize * 0x100000000 + cell_at(state, at + 4) as usize
+    let found = numbers::read_eight(state, at);
+    let numbers::FoundEight::Number(value) = found else {
+        return 0;
+    };
+    value as usize
 }
 
-// As many cells as the row has, whatever its length.
-pub(crate) fn fill(state: &[u8], from: usize, row: &mut [u32])
-    requires { ⌜ from + 4 * length (now row) ≤ length (now state) ⌝ }
-    ensures { λ _. ⌜ CellsAt (length (now (row .entry))) (now (state .entry)) from (now (row .exit)) ⌝ }
+// As many cells as there are to fill.
+pub(crate) fn fill(state: &[u8], from: usize, cells: &mut [u32])
+    requires { ⌜ from + row (length (now cells)) cell .width ≤ length (now state) ⌝ }
+    ensures { λ _. ⌜ Stands (row (length (now (cells .entry))) cell) (now (state .entry)) from (now (cells .exit)) ⌝ }
 {
     let mut i = 0;
-    while i < row.len() {
-        row[i] = cell_at(state, from + 4 * i);
+    while i < cells.len() {
+        cells[i] = cell_at(state, from + i * places::CELL);
         i += 1;
     }
 }
 
 fn frame_at(state: &[u8], at: usize) -> Frame
-    requires { ⌜ at + 76 ≤ length (now state) ⌝ }
-    ensures { λ r. ⌜ FrameAt (now (state .entry)) at r ⌝ }
+    requires { ⌜ at + frame .width ≤ length (now state) ⌝ }
+    ensures { λ r. ⌜ Stands frame (now (state .entry)) at r ⌝ }
 {
-    let mut locals = [0u32; 16];
+    let mut locals = [0u32; Frame::LOCALS];
     fill(state, at, &mut locals);
-    let r = pointer_at(state, at + 64);
-    let address = cell_at(state, at + 72);
+    let r = pointer_at(state, at + places::FRAME_R);
+    let address = cell_at(state, at + places::FRAME_ADDRESS);
     Frame { locals, r, address }
 }
 
 fn level_at(state: &[u8], at: usize) -> Level
-    requires { ⌜ at + 52 ≤ length (now state) ⌝ }
-    ensures { λ r. ⌜ LevelAt (now (state .entry)) at r ⌝ }
+    requires { ⌜ at + level .width ≤ length (now state) ⌝ }
+    ensures { λ r. ⌜ Stands level (now (state .entry)) at r ⌝ }
 {
-    let mut cells = [0u32; 8];
+    let mut cells = [0u32; Level::CELLS];
     fill(state, at, &mut cells);
-    let s = pointer_at(state, at + 32);
-    let p = pointer_at(state, at + 40);
-    let address = cell_at(state, at + 48);
+    let s = pointer_at(state, at + places::LEVEL_S);
+    let p = pointer_at(state, at + places::LEVEL_P);
+    let address = cell_at(state, at + places::LEVEL_ADDRESS);
     Level {
         cells,
         s,
@@ -69,45 +73,45 @@ fn level_at(state: &[u8], at: usize) -> Level
     }
 }
 
-fn frames_at(state: &[u8], from: usize) -> [Frame; 33]
-    requires { ⌜ from + 2508 ≤ length (now state) ⌝ }
-    ensures { λ r. ⌜ FramesAt (now (state .entry)) from r ⌝ }
+fn frames_at(state: &[u8], from: usize) -> [Frame; Links::FRAMES]
+    requires { ⌜ from + row framesCount frame .width ≤ length (now state) ⌝ }
+    ensures { λ r. ⌜ Stands (row framesCount frame) (now (state .entry)) from r ⌝ }
 {
     let fresh = Links::fresh();
     let mut frames = fresh.frames;
     let mut i = 0;
-    while i < 33 {
-        frames[i] = frame_at(state, from + 76 * i);
+    while i < Links::FRAMES {
+        frames[i] = frame_at(state, from + i * places::FRAME);
         i += 1;
     }
     frames
 }
 
-fn levels_at(state: &[u8], from: usize) -> [Level; 9]
-    requires { ⌜ from + 468 ≤ length (now state) ⌝ }
-    ensures { λ r. ⌜ LevelsAt (now (state .entry)) from r ⌝ }
+fn levels_at(state: &[u8], from: usize) -> [Level; Links::LEVELS]
+    requires { ⌜ from + row levelsCount level .width ≤ length (now state) ⌝ }
+    ensures { λ r. ⌜ Stands (row levelsCount level) (now (state .entry)) from r ⌝ }
 {
     let fresh = Links::fresh();
     let mut levels = fresh.levels;
     let mut i = 0;
-    while i < 9 {
-        levels[i] = level_at(state, from + 52 * i);
+    while i < Links::LEVELS {
+        levels[i] = level_at(state, from + i * places::LEVEL);
         i += 1;
     }
     levels
 }
 
 pub(crate) fn links_at(state: &[u8], at: usize) -> Links
-    requires { ⌜ at + 3256 ≤ length (now state) ⌝ }
-    ensures { λ r. ⌜ LinksAt (now (state .entry)) at r ⌝ }
+    requires { ⌜ at + links .width ≤ length (now state) ⌝ }
+    ensures { λ r. ⌜ Stands links (now (state .entry)) at r ⌝ }
 {
-    let mut returns = [0u32; 64];
+    let mut returns = [0u32; Links::RETURNS];
     fill(state, at, &mut returns);
-    let r = pointer_at(state, at + 256);
-    let frames = frames_at(state, at + 264);
-    let s = pointer_at(state, at + 2772);
-    let levels = levels_at(state, at + 2780);
-    let e = pointer_at(state, at + 3248);
+    let r = pointer_at(state, at + places::LINKS_R);
+    let frames = frames_at(state, at + places::LINKS_FRAMES);
+    let s = pointer_at(state, at + places::LINKS_S);
+    let levels = levels_at(state, at + places::LINKS_LEVELS);
+    let e = pointer_at(state, at + places::LINKS_E);
     Links {
         returns,
         r,

@@ -1,9 +1,7 @@
 -- Each way out hands what the called functions ensure to its law.
-use mathlib.Core.Path.{_≡_, ap, _∙_}
-use native.Mathlib.Omega.{arith}
-use lib.ListN.{length}
+use mathlib.Core.Path.{ap, _∙_}
 use Rattle.machine.specs.Run.{runOf}
-use Rattle.state.specs.Layout.{resultSize}
+use Rattle.state.specs.Promise.{saysVerdict}
 use Rattle.host.proofs.Handing.{other-result, other-state, handed-back}
 use borrow.Author.Needs.{needs}
 use Rattle.host.proofs.glidecotton_run_state.Statement.{statement}
@@ -11,10 +9,8 @@ use Rattle.host.proofs.glidecotton_run_state.Tie as tie
 
 returns : tie.Need-returns
 returns c =
-    let start = c .before .before .before .before in
-    let a = start .args in
-    let other : length (a .result .now) ≡ resultSize → ⊥ = omega arith in
-    other-result (a .state .now) (a .memory .now) (a .budget) (a .result .now) other
+    let a = c .before .before .before .before .args in
+    other-result (a .state .now) (a .memory .now) (a .budget) (a .result .now) (c .if1 .taken)
 
 take-requires : tie.Need-take-requires
 take-requires c κs = search needs
@@ -30,9 +26,8 @@ same-length c = search needs
 
 returns-2 : tie.Need-returns-2
 returns-2 c =
-    let start = c .before .before .before .before .before .before .before .before in
-    let a = start .args in
-    other-state (a .state .now) (a .memory .now) (a .budget) (a .result .now) _ _ (c .before .before .take .ensures) (c .enum-told2 .given .1)
+    let a = c .before .before .before .before .before .before .before .before .args in
+    other-state (a .state .now) (a .memory .now) (a .budget) (a .result .now) _ _ _ (c .before .before .take .ensures) (ap saysVerdict (c .enum-told2 .given .1))
 
 narrowed-requires : tie.Need-narrowed-requires
 narrowed-requires c κs = search needs
@@ -57,13 +52,17 @@ same-length-4 c = search needs
 
 returns-3 : tie.Need-returns-3
 returns-3 c =
-    let start = c .before .before .before .before .before .before .before .before .before .before .before .before .before .before .before .before .before .before .before .before .before .before .before .before .before in
-    let a = start .args in
-    let narrow = c .before .before .before .before .before .before .before .before .before .before .before .before .before .before .narrowed in
-    let ran = c .before .before .before .before .before .before .before .before .before .before .before .before .before .run in
-    let long : length (a .result .now) ≡ resultSize = omega (arith, c .before .before .before .before .before .before .before .before .before .before .before .before .before .before .before .before .before .before .before .before .before .if1 .left) in
-    handed-back (a .state .now) (a .memory .now) (a .budget) (a .result .now) _ _ _ _ (c .before .before .before .before .before .before .before .before .before .before .before .before .before .before .before .before .before .before .before .take .ensures) (c .before .before .before .before .before .before .before .before .before .before .before .before .before .before .before .before .before .enum-told .given .1) long
-    (ran .ensures ∙ ap (runOf (a .memory .now) _) (narrow .ensures)) (c .before .before .before .before .before .before .give .ensures) (c .before .before .give-counts .ensures)
+    let counts = c .before .before in
+    let gave = counts .before .before .before .before in
+    let ran = gave .before .before .before .before .before .before .before in
+    let narrow = ran .before in
+    let told = narrow .before .before .before in
+    let took = told .before .before in
+    let measured = took .before .before in
+    let a = measured .before .before .before .before .args in
+    handed-back (a .state .now) (a .memory .now) (a .budget) (a .result .now) _ _ _ _ _ _ _
+    (took .take .ensures) (ap saysVerdict (told .enum-told .given .1)) (measured .if1 .left)
+    (ran .run .ensures ∙ ap (runOf (a .memory .now) _) (narrow .narrowed .ensures)) (gave .give .ensures) (counts .give-counts .ensures)
 
 pub glidecotton-run-state-spec : {M : Type 1} → statement M
 glidecotton-run-state-spec =

@@ -1,18 +1,22 @@
--- Another length is refused; else the parts that stand one after the other are the whole state.
-use mathlib.Core.Path.{_≡_, sym, subst}
+-- Another length is refused; else the fields that stand one after the other are the whole state.
+use mathlib.Core.Path.{_≡_, sym, subst, _∙_}
 use native.Mathlib.Omega.{arith}
-use lib.ListN.{length}
-use Rattle.state.specs.Promise.{Takes, wrong-length, spelled}
-use Rattle.state.proofs.Standing.{machine-fits, machine-spells}
 use borrow.Author.Needs.{needs}
+use lib.ListN.{length}
+use lib.Seq.{take-all}
+use Rattle.plain.specs.Answer.{refuses}
+use Rattle.state.specs.Layout.{stateFields, state}
+use Rattle.state.specs.Promise.{Takes, wrong-length, spelled}
+use Rattle.state.specs.Laws.Sound.{_and_}
+use Rattle.state.proofs.Standing.{fields-stand}
 use Rattle.state.proofs.take.Statement.{statement}
 use Rattle.state.proofs.take.Tie as tie
 
-refused-requires : tie.Need-refused-requires
-refused-requires c κs = search needs
+fresh-requires : tie.Need-fresh-requires
+fresh-requires c κs = search needs
 
 returns : tie.Need-returns
-returns c = subst (Takes (c .before .before .before .args .state .now)) (sym (c .refused .ensures)) (wrong-length (c .before .if1 .taken))
+returns c = subst (Takes (c .before .before .before .args .state .now) (refuses 2)) (sym (c .fresh .ensures)) (wrong-length (c .before .if1 .taken))
 
 slice-aggregate-fill : tie.Need-slice-aggregate-fill
 slice-aggregate-fill c = search needs
@@ -34,20 +38,21 @@ cell-at-requires-2 c κs = search needs
 
 returns-2 : tie.Need-returns-2
 returns-2 c =
-    let state = c .before .before .before .before .before .before .before .before .before .args .state .now in
-    let long : length state ≡ 3528 = c .before .before .before .before .before .before .before .if1 .left in
-    let cells = c .before .before .before .before .before .fill .ensures in
-    let p = c .before .before .before .pointer-at .ensures in
-    let links = c .before .before .links-at .ensures in
-    let counter = c .before .cell-at .ensures in
-    let flag = c .cell-at2 .ensures in
-    spelled _ long (machine-fits state _ cells p links counter flag) (machine-spells state _ cells p links counter flag (omega arith))
+    let counter = c .before in
+    let links = counter .before in
+    let p = links .before in
+    let cells = p .before .before in
+    let left = cells .before .before in
+    let bytes = left .before .before .args .state .now in
+    let long : length bytes ≡ state .width = left .if1 .left in
+    let all = fields-stand stateFields bytes 0 _ (cells .fill .ensures and p .pointer-at .ensures and links .links-at .ensures and counter .cell-at .ensures and c .cell-at2 .ensures and tt) in
+    spelled _ long (all .fit) (all .spelled ∙ take-all (state .width) bytes (omega arith))
 
 pub take-spec : {M : Type 1} → statement M
 take-spec =
     tie.close
     (tie.spec
-    refused-requires
+    fresh-requires
     returns
     slice-aggregate-fill
     fill-requires

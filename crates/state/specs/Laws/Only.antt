@@ -1,41 +1,66 @@
 -- No second answer, and a machine that was given is taken back as it was.
 use mathlib.Core.List.{List}
-use mathlib.Core.Path.{_≡_, refl, sym, ap, _∙_, subst}
+use mathlib.Core.Path.{_≡_, refl, sym, ap, _∙_}
 use Prim.Native.Nat.{ℕ}
 use lib.ListN.{length}
-use borrow.Author.Tests.{eq-eqb}
+use Rattle.plain.specs.Answer.{Answer, refuses, gives}
 use Rattle.machine.specs.declared.Machine.{Machine}
-use Rattle.state.specs.Layout.{stateBytes, stateSize}
-use Rattle.state.specs.Fitting.{Fits}
-use Rattle.state.specs.Promise.{Takes, wrong-length, spelled, taken, Given, filledWith, givenOf, countsOf}
-use Rattle.state.specs.Laws.Sizes.{length-state}
-use Rattle.state.specs.Laws.Spelling.{only-machine}
+use Rattle.state.specs.Parts.{Part}
+use Rattle.state.specs.Layout.{state}
+use Rattle.state.specs.Promise.{saysVerdict, Takes, wrong-length, spelled, Gives, wrong-size, filled}
+use Rattle.state.specs.Laws.Spelling.{state-sound}
 use Rattle.state.specs.declared.Taken.{Taken}
+use Rattle.state.specs.declared.Verdict.{Verdict}
+use Rattle.state.specs.declared.Verdict.the-variants.{Good, Refused}
 
-pub only-take : (state : List ℕ) (t u : Taken) → Takes state t → Takes state u → t ≡ u
-only-take state t u (wrong-length h) (wrong-length k) = refl
-only-take state t u (wrong-length h) (spelled n long k f) = absurd (h long)
-only-take state t u (spelled m long h e) (wrong-length k) = absurd (k long)
-only-take state t u (spelled m long h e) (spelled n also k f) = ap taken (only-machine m n h k (e ∙ sym f))
+-- a verdict says one thing only
+only-verdict : (v w : Verdict) → saysVerdict v ≡ saysVerdict w → v ≡ w
+only-verdict Good Good e = refl
+only-verdict Good (Refused n) e = cc
+only-verdict (Refused n) Good e = cc
+only-verdict (Refused n) (Refused k) e = cc
 
-pub only-give : (m : Machine) (before : List ℕ) (a b : Given) → a ≡ givenOf m before → b ≡ givenOf m before → a ≡ b
-only-give m before a b h k = h ∙ sym k
+record SameTaken (a b : Answer (Unit {0})) (m n : Machine) : Type 0 where
+  same-answer : a ≡ b
+  same-machine : m ≡ n
 
-pub only-counts : (answer steps cycles : ℕ) (before : List ℕ) (a b : Given) → a ≡ countsOf answer steps cycles before → b ≡ countsOf answer steps cycles before → a ≡ b
-only-counts answer steps cycles before a b h k = h ∙ sym k
+only-takes : (bytes : List ℕ) (a b : Answer (Unit {0})) (m n : Machine) → Takes bytes a m → Takes bytes b n → SameTaken a b m n
+only-takes bytes a b m n (wrong-length h) (wrong-length k) = record { same-answer = refl; same-machine = refl }
+only-takes bytes a b m n (wrong-length h) (spelled _ long fit is) = absurd (h long)
+only-takes bytes a b m n (spelled _ long fit is) (wrong-length k) = absurd (k long)
+only-takes bytes a b m n (spelled _ long fit is) (spelled _ also fits same) =
+    record { same-answer = refl; same-machine = state-sound .only m n fit fits (is ∙ sym same) }
 
--- a buffer of the right length is filled
-pub filled-whole : (size : ℕ) (bytes before : List ℕ) → length before ≡ size → filledWith size bytes before .buffer ≡ bytes
-unfolding filledWith
-filled-whole size bytes before long = simp (eq-eqb (length before) size long)
+pub only-take : (bytes : List ℕ) (t u : Taken) → Takes bytes (saysVerdict (t .verdict)) (t .machine) → Takes bytes (saysVerdict (u .verdict)) (u .machine) → t ≡ u
+only-take bytes t u h k =
+    let same = only-takes bytes _ _ _ _ h k in
+    let verdict : t .verdict ≡ u .verdict = only-verdict (t .verdict) (u .verdict) (same .same-answer) in
+    λ i. record { verdict = verdict i; machine = same .same-machine i }
 
-pub taken-back : (m : Machine) (before : List ℕ) (t : Taken) → Fits m → length before ≡ stateSize → Takes (givenOf m before .buffer) t → t ≡ taken m
-taken-back m before t h long k =
-    let same : givenOf m before .buffer ≡ stateBytes m = filled-whole stateSize (stateBytes m) before long in
-    only-take (stateBytes m) t (taken m) (subst (λ (l : List ℕ). Takes l t) same k) (spelled m (length-state m h) h refl)
+-- of giving a machine and of giving a run's counts
+module _ {A : Type 0} (part : Part A) (x : A) (before : List ℕ) where
+  only-gives : (a b : Answer (Unit {0})) (after other : List ℕ) → Gives part x before a after → Gives part x before b other → (a ≡ b) × (after ≡ other)
+  only-gives a b after other (wrong-size h) (wrong-size k) = (refl, refl)
+  only-gives a b after other (wrong-size h) (filled long fit) = absurd (h long)
+  only-gives a b after other (filled long fit) (wrong-size k) = absurd (k long)
+  only-gives a b after other (filled long fit) (filled also fits) = (refl, refl)
+
+  pub only-give : (v w : Verdict) (after other : List ℕ) → Gives part x before (saysVerdict v) after → Gives part x before (saysVerdict w) other
+      → (v ≡ w) × (after ≡ other)
+  only-give v w after other h k =
+      let same = only-gives (saysVerdict v) (saysVerdict w) after other h k in
+      (only-verdict v w (same .0), same .1)
+
+-- the bytes that a machine was given as are taken as that machine
+pub taken-back : (m n : Machine) (before after : List ℕ) (a b : Answer (Unit {0})) → length before ≡ state .width → Gives state m before a after → Takes after b n
+    → (b ≡ gives tt) × (n ≡ m)
+taken-back m n before after a b long (wrong-size h) t = absurd (h long)
+taken-back m n before after a b long (filled also fit) t =
+    let same = only-takes (state .bytes m) b (gives tt) n m t (spelled m (state-sound .long m fit) fit refl) in
+    (same .same-answer, same .same-machine)
 
 -- and the bytes that a machine was taken from are given back as they were
-pub given-back : (state before : List ℕ) (t : Taken) → length state ≡ stateSize → length before ≡ stateSize → Takes state t
-    → givenOf (t .machine) before .buffer ≡ state
-given-back state before t all long (wrong-length h) = absurd (h all)
-given-back state before t all long (spelled m also h e) = filled-whole stateSize (stateBytes m) before long ∙ e
+pub given-back : (bytes before after : List ℕ) (m : Machine) (a : Answer (Unit {0})) → length before ≡ state .width → Takes bytes (gives tt) m → Gives state m before a after
+    → after ≡ bytes
+given-back bytes before after m a long (spelled _ also fit is) (wrong-size h) = absurd (h long)
+given-back bytes before after m a long (spelled _ also fit is) (filled same fits) = is

@@ -1,22 +1,23 @@
--- Before turn i the first i cells of the row stand in the state.
-use mathlib.Core.Path.{_≡_, refl, _∙_}
-use Prim.Native.Nat.{_≤_, _-_}
+-- Before pass i the first i cells stand in the state.
+use mathlib.Core.Path.{refl}
+use Prim.Native.Nat.{_-_}
 use native.Mathlib.Omega.{arith}
-use lib.ListN.{length, length-set}
+use lib.ListN.{length}
 use Rattle.state.specs.Layout.{cell}
-use Rattle.state.specs.Fitting.{CellFits}
-use Rattle.state.proofs.Filling.{Filled, filled-none, filled-more, filled-all}
+use Rattle.state.proofs.Standing.{Filling, filling-none, filling-more, filling-all}
 use Rattle.state.proofs.reading.fill.Statement.{statement}
 use Rattle.state.proofs.reading.fill.Tie as tie
 
 abbrev Inv-loop : tie.InvT-loop
-Inv-loop state from row₀ i₀ row i = (i ≤ length row₀) × (length row ≡ length row₀) × Filled CellFits cell 4 state from row i
+Inv-loop state from cells₀ i₀ cells i = Filling cell state from (length cells₀) cells i
 
 abbrev μ-loop : tie.MeasureT-loop
-μ-loop state from row₀ i₀ row i = length row₀ - i
+μ-loop state from cells₀ i₀ cells i = length cells₀ - i
 
 loop-holds : tie.Need-loop-holds Inv-loop μ-loop
-loop-holds c = (omega arith, refl, filled-none CellFits cell 4 (c .before .before .args .state .now) (c .before .before .args .from) (c .before .before .args .row .now))
+loop-holds c =
+    let a = c .before .before .args in
+    filling-none cell (a .state .now) (a .from) (length (a .cells .now)) (a .cells .now) refl
 
 mul-cell-at : tie.Need-mul-cell-at Inv-loop μ-loop
 mul-cell-at c = omega arith
@@ -27,11 +28,11 @@ add-cell-at c = omega arith
 cell-at-requires : tie.Need-cell-at-requires Inv-loop μ-loop
 cell-at-requires c κs = omega arith
 
-mul-row : tie.Need-mul-row Inv-loop μ-loop
-mul-row c = omega arith
+mul-cells : tie.Need-mul-cells Inv-loop μ-loop
+mul-cells c = omega arith
 
-slice-write-row : tie.Need-slice-write-row Inv-loop μ-loop
-slice-write-row c = omega arith
+slice-write-cells : tie.Need-slice-write-cells Inv-loop μ-loop
+slice-write-cells c = omega arith
 
 add-i : tie.Need-add-i Inv-loop μ-loop
 add-i c = omega arith
@@ -41,22 +42,16 @@ loop-less c = omega arith
 
 loop-again : tie.Need-loop-again Inv-loop μ-loop
 loop-again c =
-    let start = c .before .before .before .before .before in
-    let here = c .before .before .loop in (
-      omega arith,
-      length-set (here .row) (here .i) (c .cell-at .result) ∙ here .inv .1,
-      filled-more CellFits cell 4 (start .args .state .now) (start .args .from) (here .row) (here .i) (c .cell-at .result) (omega arith) (here .inv .2)
-          (c .cell-at .ensures),
-    )
+    let a = c .before .before .before .before .before .args in
+    filling-more cell (a .state .now) (a .from) (length (a .cells .now)) (c .before .before .loop .inv) (omega arith) (c .cell-at .result) (c .cell-at .ensures)
 
 same-length : tie.Need-same-length Inv-loop μ-loop
-same-length c = c .before .loop .inv .1
+same-length c = c .before .loop .inv .long
 
 returns : tie.Need-returns Inv-loop μ-loop
 returns c =
-    let start = c .before .before .before .before in
-    let here = c .before .loop in
-    filled-all CellFits cell 4 (start .args .state .now) (start .args .from) (here .row) (here .i) (length (start .args .row .now)) (omega arith) (omega arith) (here .inv .2)
+    let a = c .before .before .before .before .args in
+    filling-all cell (a .state .now) (a .from) (length (a .cells .now)) (c .before .loop .inv) (omega arith)
 
 pub fill-spec : {M : Type 1} → statement M
 fill-spec =
@@ -68,8 +63,8 @@ fill-spec =
     mul-cell-at
     add-cell-at
     cell-at-requires
-    mul-row
-    slice-write-row
+    mul-cells
+    slice-write-cells
     add-i
     loop-less
     loop-again

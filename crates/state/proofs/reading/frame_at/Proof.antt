@@ -1,5 +1,7 @@
--- The parts stand one after the other.
-use Rattle.state.proofs.Standing.{frame-stands}
+-- The fields stand one after the other.
+use Rattle.state.specs.Layout.{frameFields}
+use Rattle.state.specs.Laws.Sound.{_and_}
+use Rattle.state.proofs.Standing.{fields-stand}
 use borrow.Author.Needs.{needs}
 use Rattle.state.proofs.reading.frame_at.Statement.{statement}
 use Rattle.state.proofs.reading.frame_at.Tie as tie
@@ -24,8 +26,10 @@ cell-at-requires c κs = search needs
 
 returns : tie.Need-returns
 returns c =
-    let a = c .before .before .before .before .before .before .args in
-    frame-stands (a .state .now) (a .at) _ (c .before .before .before .fill .ensures) (c .before .pointer-at .ensures) (c .cell-at .ensures)
+    let r = c .before in
+    let locals = r .before .before in
+    let a = locals .before .before .before .args in
+    fields-stand frameFields (a .state .now) (a .at) _ (locals .fill .ensures and r .pointer-at .ensures and c .cell-at .ensures and tt)
 
 pub frame-at-spec : {M : Type 1} → statement M
 frame-at-spec =

@@ -1,5 +1,7 @@
--- The parts stand one after the other.
-use Rattle.state.proofs.Standing.{level-stands}
+-- The fields stand one after the other.
+use Rattle.state.specs.Layout.{levelFields}
+use Rattle.state.specs.Laws.Sound.{_and_}
+use Rattle.state.proofs.Standing.{fields-stand}
 use borrow.Author.Needs.{needs}
 use Rattle.state.proofs.reading.level_at.Statement.{statement}
 use Rattle.state.proofs.reading.level_at.Tie as tie
@@ -30,11 +32,11 @@ cell-at-requires c κs = search needs
 
 returns : tie.Need-returns
 returns c =
-    let second = c .before in
-    let first = second .before in
-    let cells = first .before .before in
+    let p = c .before in
+    let s = p .before in
+    let cells = s .before .before in
     let a = cells .before .before .before .args in
-    level-stands (a .state .now) (a .at) _ (cells .fill .ensures) (first .pointer-at .ensures) (second .pointer-at2 .ensures) (c .cell-at .ensures)
+    fields-stand levelFields (a .state .now) (a .at) _ (cells .fill .ensures and s .pointer-at .ensures and p .pointer-at2 .ensures and c .cell-at .ensures and tt)
 
 pub level-at-spec : {M : Type 1} → statement M
 level-at-spec =

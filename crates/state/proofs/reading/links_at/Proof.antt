@@ -1,5 +1,7 @@
--- The parts stand one after the other.
-use Rattle.state.proofs.Standing.{links-stand}
+-- The fields stand one after the other.
+use Rattle.state.specs.Layout.{linksFields}
+use Rattle.state.specs.Laws.Sound.{_and_}
+use Rattle.state.proofs.Standing.{fields-stand}
 use borrow.Author.Needs.{needs}
 use Rattle.state.proofs.reading.links_at.Statement.{statement}
 use Rattle.state.proofs.reading.links_at.Tie as tie
@@ -48,8 +50,14 @@ returns c =
     let r = frames .before in
     let cells = r .before .before in
     let a = cells .before .before .before .args in
-    links-stand (a .state .now) (a .at) _ (cells .fill .ensures) (r .pointer-at .ensures) (frames .frames-at .ensures) (s .pointer-at2 .ensures)
-    (levels .levels-at .ensures) (c .pointer-at3 .ensures)
+    fields-stand linksFields (a .state .now) (a .at) _
+    (cells .fill .ensures
+    and r .pointer-at .ensures
+    and frames .frames-at .ensures
+    and s .pointer-at2 .ensures
+    and levels .levels-at .ensures
+    and c .pointer-at3 .ensures
+    and tt)
 
 pub links-at-spec : {M : Type 1} → statement M
 links-at-spec =

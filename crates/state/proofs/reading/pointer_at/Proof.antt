@@ -1,44 +1,32 @@
--- Two cells, the high one first.
-use Rattle.state.proofs.Filling.{pointer-stands}
+-- Eight bytes that lie inside the state.
+use mathlib.Core.Path.{sym, ap, _∙_}
+use native.Mathlib.Omega.{arith}
 use borrow.Author.Needs.{needs}
+use Rattle.numbers.specs.Slices.{saysFoundEight}
+use Rattle.state.proofs.Standing.{number-stands, never-outside}
 use Rattle.state.proofs.reading.pointer_at.Statement.{statement}
 use Rattle.state.proofs.reading.pointer_at.Tie as tie
 
-cell-at-requires : tie.Need-cell-at-requires
-cell-at-requires c κs = search needs
+read-eight-requires : tie.Need-read-eight-requires
+read-eight-requires c κs = search needs
 
-cast-result : tie.Need-cast-result
-cast-result c = search needs
+enum-known-found : tie.Need-enum-known-found
+enum-known-found c = search needs
 
-mul-result : tie.Need-mul-result
-mul-result c = search needs
-
-add-cell-at : tie.Need-add-cell-at
-add-cell-at c = search needs
-
-cell-at-requires-2 : tie.Need-cell-at-requires-2
-cell-at-requires-2 c κs = search needs
-
-cast-result-2 : tie.Need-cast-result-2
-cast-result-2 c = search needs
-
-add-result : tie.Need-add-result
-add-result c = search needs
+enum-told : tie.Need-enum-told
+enum-told c = search needs
 
 returns : tie.Need-returns
 returns c =
-    let start = c .before .before .before in
-    pointer-stands (start .args .state .now) (start .args .at) (c .before .cell-at .result) (c .cell-at2 .result) (c .before .cell-at .ensures) (c .cell-at2 .ensures)
+    let start = c .before .before .before .before in
+    absurd (never-outside 8 (start .args .state .now) (start .args .at) (start .pre) _ (ap saysFoundEight (sym (c .enum-told .given .1)) ∙ c .before .before .read-eight .ensures))
+
+returns-2 : tie.Need-returns-2
+returns-2 c =
+    let read = c .before .before .before in
+    let start = read .before .before in
+    number-stands 8 (start .args .state .now) (start .args .at) (start .pre) (λ i. omega (arith, read .before .shared-slice-known .given i)) _
+    (ap saysFoundEight (sym (c .before .found .given .1)) ∙ read .read-eight .ensures)
 
 pub pointer-at-spec : {M : Type 1} → statement M
-pointer-at-spec =
-    tie.close
-    (tie.spec
-    cell-at-requires
-    cast-result
-    mul-result
-    add-cell-at
-    cell-at-requires-2
-    cast-result-2
-    add-result
-    returns)
+pointer-at-spec = tie.close (tie.spec read-eight-requires enum-known-found enum-told returns returns-2)

@@ -1,11 +1,11 @@
--- Each part is put where the one before it ends.
+-- Each field is put where the one before it ends.
 use mathlib.Core.Path.{_≡_}
 use native.Mathlib.Omega.{arith}
 use borrow.Author.Needs.{needs}
-use lib.Dec.{lit≤}
 use lib.ListN.{length}
-use Rattle.state.specs.Layout.{levelBytes}
-use Rattle.state.proofs.Putting.{put-counted, put-then, room}
+use Rattle.links.specs.Depths.{levelCells}
+use Rattle.state.specs.Layout.{levelFields}
+use Rattle.state.proofs.Putting.{put-counted, none, _then_, fields-put}
 use Rattle.state.proofs.writing.put_level.Statement.{statement}
 use Rattle.state.proofs.writing.put_level.Tie as tie
 
@@ -14,25 +14,23 @@ slice-aggregate-put-row c = search needs
 
 put-row-requires : tie.Need-put-row-requires
 put-row-requires c κs =
-    let start = c .before .before .before .before in
-    let long : 8 ≡ length (start .args .level .cells) = slice-aggregate-put-row c in
+    let long : levelCells ≡ length (c .before .before .before .before .args .level .cells) = slice-aggregate-put-row c in
     omega arith
 
 put-pointer-requires : tie.Need-put-pointer-requires
 put-pointer-requires c κs =
     let at₁ = c .before .before .before in
     let start = at₁ .before .before .before .before .before in
-    let put₁ = put-counted 8 (start .args .level .cells) (slice-aggregate-put-row (at₁ .before)) (at₁ .put-row .ensures) in
-    room put₁ 52 8 (lit≤ tt) (start .pre)
+    let long : levelCells ≡ length (start .args .level .cells) = slice-aggregate-put-row (at₁ .before) in
+    omega (arith, start .pre)
 
 put-pointer-requires-2 : tie.Need-put-pointer-requires-2
 put-pointer-requires-2 c κs =
     let at₂ = c .before .before .before in
     let at₁ = at₂ .before .before .before .before in
     let start = at₁ .before .before .before .before .before in
-    let put₁ = put-counted 8 (start .args .level .cells) (slice-aggregate-put-row (at₁ .before)) (at₁ .put-row .ensures) in
-    let put₂ = put-then put₁ (at₂ .put-pointer .ensures) in
-    room put₂ 52 8 (lit≤ tt) (start .pre)
+    let long : levelCells ≡ length (start .args .level .cells) = slice-aggregate-put-row (at₁ .before) in
+    omega (arith, start .pre)
 
 put-cell-requires : tie.Need-put-cell-requires
 put-cell-requires c κs =
@@ -40,26 +38,25 @@ put-cell-requires c κs =
     let at₂ = at₃ .before .before .before .before in
     let at₁ = at₂ .before .before .before .before in
     let start = at₁ .before .before .before .before .before in
-    let put₁ = put-counted 8 (start .args .level .cells) (slice-aggregate-put-row (at₁ .before)) (at₁ .put-row .ensures) in
-    let put₂ = put-then put₁ (at₂ .put-pointer .ensures) in
-    let put₃ = put-then put₂ (at₃ .put-pointer2 .ensures) in
-    room put₃ 52 4 (lit≤ tt) (start .pre)
+    let long : levelCells ≡ length (start .args .level .cells) = slice-aggregate-put-row (at₁ .before) in
+    omega (arith, start .pre)
 
 same-length : tie.Need-same-length
 same-length c = search needs
 
 returns : tie.Need-returns
-unfolding levelBytes
 returns c =
     let at₄ = c .before .before in
     let at₃ = at₄ .before .before .before .before in
     let at₂ = at₃ .before .before .before .before in
     let at₁ = at₂ .before .before .before .before in
     let start = at₁ .before .before .before .before .before in
-    let put₁ = put-counted 8 (start .args .level .cells) (slice-aggregate-put-row (at₁ .before)) (at₁ .put-row .ensures) in
-    let put₂ = put-then put₁ (at₂ .put-pointer .ensures) in
-    let put₃ = put-then put₂ (at₃ .put-pointer2 .ensures) in
-    put-then put₃ (at₄ .put-cell .ensures)
+    fields-put levelFields (start .args .level) (start .args .state .now) (start .args .at) _ _
+    (put-counted levelCells (start .args .level .cells) (slice-aggregate-put-row (at₁ .before)) (at₁ .put-row .ensures)
+    then at₂ .put-pointer .ensures
+    then at₃ .put-pointer2 .ensures
+    then at₄ .put-cell .ensures
+    then none)
 
 pub put-level-spec : {M : Type 1} → statement M
 put-level-spec =

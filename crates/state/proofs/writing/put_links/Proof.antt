@@ -1,11 +1,11 @@
--- Each part is put where the one before it ends.
+-- Each field is put where the one before it ends.
 use mathlib.Core.Path.{_≡_}
 use native.Mathlib.Omega.{arith}
 use borrow.Author.Needs.{needs}
-use lib.Dec.{lit≤}
 use lib.ListN.{length}
-use Rattle.state.specs.Layout.{linksBytes}
-use Rattle.state.proofs.Putting.{put-counted, put-then, room}
+use Rattle.links.specs.Depths.{returnsDepth}
+use Rattle.state.specs.Layout.{linksFields}
+use Rattle.state.proofs.Putting.{put-counted, none, _then_, fields-put}
 use Rattle.state.proofs.writing.put_links.Statement.{statement}
 use Rattle.state.proofs.writing.put_links.Tie as tie
 
@@ -14,25 +14,23 @@ slice-aggregate-put-row c = search needs
 
 put-row-requires : tie.Need-put-row-requires
 put-row-requires c κs =
-    let start = c .before .before .before .before .before .before in
-    let long : 64 ≡ length (start .args .links .returns) = slice-aggregate-put-row c in
+    let long : returnsDepth ≡ length (c .before .before .before .before .before .before .args .links .returns) = slice-aggregate-put-row c in
     omega arith
 
 put-pointer-requires : tie.Need-put-pointer-requires
 put-pointer-requires c κs =
     let at₁ = c .before .before .before in
     let start = at₁ .before .before .before .before .before .before .before in
-    let put₁ = put-counted 64 (start .args .links .returns) (slice-aggregate-put-row (at₁ .before)) (at₁ .put-row .ensures) in
-    room put₁ 3256 8 (lit≤ tt) (start .pre)
+    let long : returnsDepth ≡ length (start .args .links .returns) = slice-aggregate-put-row (at₁ .before) in
+    omega (arith, start .pre)
 
 put-frames-requires : tie.Need-put-frames-requires
 put-frames-requires c κs =
     let at₂ = c .before .before .before in
     let at₁ = at₂ .before .before .before .before in
     let start = at₁ .before .before .before .before .before .before .before in
-    let put₁ = put-counted 64 (start .args .links .returns) (slice-aggregate-put-row (at₁ .before)) (at₁ .put-row .ensures) in
-    let put₂ = put-then put₁ (at₂ .put-pointer .ensures) in
-    room put₂ 3256 2508 (lit≤ tt) (start .pre)
+    let long : returnsDepth ≡ length (start .args .links .returns) = slice-aggregate-put-row (at₁ .before) in
+    omega (arith, start .pre)
 
 put-pointer-requires-2 : tie.Need-put-pointer-requires-2
 put-pointer-requires-2 c κs =
@@ -40,10 +38,8 @@ put-pointer-requires-2 c κs =
     let at₂ = at₃ .before .before .before .before in
     let at₁ = at₂ .before .before .before .before in
     let start = at₁ .before .before .before .before .before .before .before in
-    let put₁ = put-counted 64 (start .args .links .returns) (slice-aggregate-put-row (at₁ .before)) (at₁ .put-row .ensures) in
-    let put₂ = put-then put₁ (at₂ .put-pointer .ensures) in
-    let put₃ = put-then put₂ (at₃ .put-frames .ensures) in
-    room put₃ 3256 8 (lit≤ tt) (start .pre)
+    let long : returnsDepth ≡ length (start .args .links .returns) = slice-aggregate-put-row (at₁ .before) in
+    omega (arith, start .pre)
 
 put-levels-requires : tie.Need-put-levels-requires
 put-levels-requires c κs =
@@ -52,11 +48,8 @@ put-levels-requires c κs =
     let at₂ = at₃ .before .before .before .before in
     let at₁ = at₂ .before .before .before .before in
     let start = at₁ .before .before .before .before .before .before .before in
-    let put₁ = put-counted 64 (start .args .links .returns) (slice-aggregate-put-row (at₁ .before)) (at₁ .put-row .ensures) in
-    let put₂ = put-then put₁ (at₂ .put-pointer .ensures) in
-    let put₃ = put-then put₂ (at₃ .put-frames .ensures) in
-    let put₄ = put-then put₃ (at₄ .put-pointer2 .ensures) in
-    room put₄ 3256 468 (lit≤ tt) (start .pre)
+    let long : returnsDepth ≡ length (start .args .links .returns) = slice-aggregate-put-row (at₁ .before) in
+    omega (arith, start .pre)
 
 put-pointer-requires-3 : tie.Need-put-pointer-requires-3
 put-pointer-requires-3 c κs =
@@ -66,18 +59,13 @@ put-pointer-requires-3 c κs =
     let at₂ = at₃ .before .before .before .before in
     let at₁ = at₂ .before .before .before .before in
     let start = at₁ .before .before .before .before .before .before .before in
-    let put₁ = put-counted 64 (start .args .links .returns) (slice-aggregate-put-row (at₁ .before)) (at₁ .put-row .ensures) in
-    let put₂ = put-then put₁ (at₂ .put-pointer .ensures) in
-    let put₃ = put-then put₂ (at₃ .put-frames .ensures) in
-    let put₄ = put-then put₃ (at₄ .put-pointer2 .ensures) in
-    let put₅ = put-then put₄ (at₅ .put-levels .ensures) in
-    room put₅ 3256 8 (lit≤ tt) (start .pre)
+    let long : returnsDepth ≡ length (start .args .links .returns) = slice-aggregate-put-row (at₁ .before) in
+    omega (arith, start .pre)
 
 same-length : tie.Need-same-length
 same-length c = search needs
 
 returns : tie.Need-returns
-unfolding linksBytes
 returns c =
     let at₆ = c .before .before in
     let at₅ = at₆ .before .before .before .before in
@@ -86,12 +74,14 @@ returns c =
     let at₂ = at₃ .before .before .before .before in
     let at₁ = at₂ .before .before .before .before in
     let start = at₁ .before .before .before .before .before .before .before in
-    let put₁ = put-counted 64 (start .args .links .returns) (slice-aggregate-put-row (at₁ .before)) (at₁ .put-row .ensures) in
-    let put₂ = put-then put₁ (at₂ .put-pointer .ensures) in
-    let put₃ = put-then put₂ (at₃ .put-frames .ensures) in
-    let put₄ = put-then put₃ (at₄ .put-pointer2 .ensures) in
-    let put₅ = put-then put₄ (at₅ .put-levels .ensures) in
-    put-then put₅ (at₆ .put-pointer3 .ensures)
+    fields-put linksFields (start .args .links) (start .args .state .now) (start .args .at) _ _
+    (put-counted returnsDepth (start .args .links .returns) (slice-aggregate-put-row (at₁ .before)) (at₁ .put-row .ensures)
+    then at₂ .put-pointer .ensures
+    then at₃ .put-frames .ensures
+    then at₄ .put-pointer2 .ensures
+    then at₅ .put-levels .ensures
+    then at₆ .put-pointer3 .ensures
+    then none)
 
 pub put-links-spec : {M : Type 1} → statement M
 put-links-spec =

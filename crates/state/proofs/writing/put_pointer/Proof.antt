@@ -1,37 +1,24 @@
--- Two cells, the high one first.
+-- Eight bytes written inside the state.
 use borrow.Author.Needs.{needs}
-use lib.Dec.{lit≤}
-use Rattle.state.specs.Layout.{pointer}
-use Rattle.state.proofs.Putting.{put-then, room}
+use Rattle.state.proofs.Putting.{number-put}
 use Rattle.state.proofs.writing.put_pointer.Statement.{statement}
 use Rattle.state.proofs.writing.put_pointer.Tie as tie
 
-cast-put-cell : tie.Need-cast-put-cell
-cast-put-cell c = search needs
+write-eight-requires : tie.Need-write-eight-requires
+write-eight-requires c κs = search needs
 
-put-cell-requires : tie.Need-put-cell-requires
-put-cell-requires c κs = search needs
-
-cast-put-cell-2 : tie.Need-cast-put-cell-2
-cast-put-cell-2 c = search needs
-
-put-cell-requires-2 : tie.Need-put-cell-requires-2
-put-cell-requires-2 c κs = room (c .before .before .before .put-cell .ensures) 8 4 (lit≤ tt) (c .before .before .before .before .before .before .pre)
+add-result : tie.Need-add-result
+add-result c = search needs
 
 same-length : tie.Need-same-length
 same-length c = search needs
 
 returns : tie.Need-returns
-unfolding pointer
-returns c = put-then (c .before .before .before .before .before .before .put-cell .ensures) (c .before .before .put-cell2 .ensures)
+returns c =
+    let write = c .before .before in
+    let start = write .before .before .before in
+    let a = start .args in
+    number-put 8 (a .value) (a .state .now) (a .at) _ (start .pre) (search needs) (write .write-eight .ensures)
 
 pub put-pointer-spec : {M : Type 1} → statement M
-put-pointer-spec =
-    tie.close
-    (tie.spec
-    cast-put-cell
-    put-cell-requires
-    cast-put-cell-2
-    put-cell-requires-2
-    same-length
-    returns)
+put-pointer-spec = tie.close (tie.spec write-eight-requires add-result same-length returns)

@@ -1,0 +1,18 @@
+-- What the functions on a part of a state promise each other.
+use mathlib.Core.List.{List, _++_}
+use mathlib.Core.Path.{_≡_}
+use Prim.Native.Nat.{ℕ, _+_}
+use lib.ListN.{length, take, drop}
+use Rattle.state.specs.Parts.{Part}
+
+-- `Stands part state at x`: x fits, and its bytes are those of the state from the place on
+pub record Stands {A : Type 0} (part : Part A) (state : List ℕ) (at : ℕ) (x : A) : Type 0 where
+  pub fit : part .Fits x
+  pub spelled : part .bytes x ≡ take (part .width) (drop at state)
+
+-- `Put part before at x after next`: x fits by its type, and its bytes now stand after the bytes before the place, up to the next
+pub record Put {A : Type 0} (part : Part A) (before : List ℕ) (at : ℕ) (x : A) (after : List ℕ) (next : ℕ) : Type 0 where
+  pub fit : part .Fits x
+  pub next-is : next ≡ at + part .width
+  pub bytes-are : take next after ≡ take at before ++ part .bytes x
+  pub as-long : length after ≡ length before
