@@ -1,11 +1,13 @@
 -- What happens to a machine and its memory, one moment after another: kept as data, so that whatever is measured over it is a fold.
 use mathlib.Core.Path.{_≡_}
+use mathlib.Core.Bool.{true}
 use mathlib.Core.List.{List}
 use Prim.Native.Nat.{ℕ, zero, suc, _+_, _<_}
-use Rattle.machine.specs.Memory.{byteAt}
+use Rattle.numbers.specs.Bytes.{byteAt}
 use Rattle.machine.specs.Fetch.{instructionAt}
 use Rattle.machine.specs.Step.{done, stepOf, costOf}
-use Rattle.machine.specs.Run.{After}
+use Rattle.machine.specs.State.{Whole}
+use Rattle.machine.specs.Run.{After, acceptable}
 use Rattle.machine.specs.declared.Machine.{Machine}
 
 pub record World : Type 0 where
@@ -23,8 +25,8 @@ left a = world (a .memory) (a .ran .machine)
 abbrev pub codeAt : World → ℕ
 codeAt w = byteAt (w .memory) (w .machine .counter)
 
-abbrev pub levels : World → ℕ
-levels w = w .machine .links .e
+abbrev pub pointerE : World → ℕ
+pointerE w = w .machine .links .e
 
 abbrev pub costAt : World → ℕ
 costAt w = costOf (instructionAt (w .memory) (w .machine .counter)) (w .machine)
@@ -33,8 +35,8 @@ costAt w = costOf (instructionAt (w .memory) (w .machine .counter)) (w .machine)
 pub data Moment (w v : World) : Type 0 where
   -- an instruction is carried out
   step : (k : ℕ) → stepOf (w .memory) (w .machine) ≡ done (v .memory) (v .machine) k → Moment w v
-  -- the host's turn: it may change the memory as it likes, and hands the machine back unaltered
-  turn : v .machine ≡ w .machine → Moment w v
+  -- the host may change the memory as it likes, and hands the machine back unaltered
+  host : v .machine ≡ w .machine → Moment w v
 
 pub data History : World → World → Type 0 where
   here : {w : World} → History w w
@@ -49,29 +51,31 @@ joined (then moment rest) later = then moment (joined rest later)
 abbrev pub stepsIn : {w v : World} → History w v → ℕ
 stepsIn here = zero
 stepsIn (then (step k e) rest) = suc (stepsIn rest)
-stepsIn (then (turn e) rest) = stepsIn rest
+stepsIn (then (host e) rest) = stepsIn rest
 
 abbrev pub cyclesIn : {w v : World} → History w v → ℕ
 cyclesIn here = zero
 cyclesIn {w} (then (step k e) rest) = costAt w + cyclesIn rest
-cyclesIn (then (turn e) rest) = cyclesIn rest
+cyclesIn (then (host e) rest) = cyclesIn rest
 
--- no host's turn in it
+-- instructions alone, with no change by the host
 abbrev pub Unbroken : {w v : World} → History w v → Type 0
 Unbroken here = Unit {0}
 Unbroken (then (step k e) rest) = Unbroken rest
-Unbroken (then (turn e) rest) = ⊥
+Unbroken (then (host e) rest) = ⊥
 
--- a moment that is no RESETSP, and a history of such moments
-abbrev pub Ordinary : {w v : World} → Moment w v → Type 0
-Ordinary {w} (step k e) = codeAt w ≡ 0x0C → ⊥
-Ordinary (turn e) = Unit {0}
-
-abbrev pub NoReset : {w v : World} → History w v → Type 0
-NoReset here = Unit {0}
-NoReset (then moment rest) = Ordinary moment × NoReset rest
+-- a moment that carries out a RESETSP
+abbrev pub Resets : {w v : World} → Moment w v → Type 0
+Resets {w} (step k e) = codeAt w ≡ 0x0C
+Resets (host e) = ⊥
 
 -- E is above n from the first to the last
 abbrev pub Above : ℕ → {w v : World} → History w v → Type 0
-Above n {w} here = n < levels w
-Above n {w} (then moment rest) = (n < levels w) × Above n rest
+Above n {w} here = n < pointerE w
+Above n {w} (then moment rest) = (n < pointerE w) × Above n rest
+
+-- a state that a run accepts, whatever budget it was given; its lists are as long as the arrays that they stand for
+pub record Accepted (w : World) : Type 0 where
+  pub whole : Whole (w .machine)
+  pub budget : ℕ
+  pub accepted : acceptable (w .memory) (w .machine) budget ≡ true

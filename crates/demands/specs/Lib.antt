@@ -1,19 +1,20 @@
+-- what happens to a machine and its memory, one moment after another
 pub mod History
-pub mod Runs
-pub mod Lowest
-pub mod Refused
-pub mod One
-pub mod Handed
-pub mod Only
+-- the course of a run, and the reason why it ends
+pub mod Course
+-- what a run leaves, counted on from an earlier one
 pub mod Added
-pub mod Two
-pub mod Back
-pub mod Stood
-pub mod Loss
+-- which of several tests gives the answer
+pub mod Lowest
+-- runs one after another
 pub mod Sessions
-pub mod Three
-pub mod Carried
-pub mod Walks
+-- when a machine is back where it was before a CATCH
+pub mod Back
+-- so many steps ahead
+pub mod Walk
+-- three starred lines of the bench sheet, taken apart
 pub mod Cases
+-- an image for demand 3 over two runs
 pub mod Worked
-pub mod Images
+pub mod Laws
+pub mod Theorems

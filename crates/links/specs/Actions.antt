@@ -6,6 +6,7 @@ use Prim.Native.Nat.{ℕ, suc, _+_, _-_, _%_, _^_}
 use lib.Dec.{ltb, leb}
 use lib.ListN.{set, replicate}
 use Rattle.plain.specs.Choice.{pick, both}
+use Rattle.links.specs.Depths.{localsCount}
 use Rattle.links.specs.Linked.{frameAt, levelAt, copyOfR, copyOfS, copyOfP}
 use Rattle.links.specs.declared.Frame.{Frame}
 use Rattle.links.specs.declared.Level.{Level}
@@ -18,7 +19,7 @@ pub data Act : Type 0 where
   push : ℕ → Act
   -- JSR, JSL: a call with this return address
   call : ℕ → Act
-  -- CATCH: a call with this return address, and P before the CATCH, its address still counted
+  -- CATCH: a call with this return address, and P after the CATCH's own address was taken
   catch : ℕ → ℕ → Act
   exit : Act
   -- R>: a return cell is popped
@@ -31,7 +32,7 @@ pub data Act : Type 0 where
 
 -- the locals of a new level
 unfoldable pub noLocals : List ℕ
-noLocals = replicate 16 0
+noLocals = replicate localsCount 0
 
 -- the level that a call makes: its locals zero, R as it was before, the return address
 abbrev pub calledFrame : ℕ → ℕ → Frame
@@ -40,23 +41,52 @@ calledFrame r address = record { locals = noLocals; r = r; address = address }
 -- the level that a CATCH makes: the cells of the level below it, S as it was before, P after the address was taken,
 -- and a throw address one above the return address
 abbrev pub caughtLevel : List ℕ → ℕ → ℕ → ℕ → Level
-caughtLevel cells s p address = record { cells = cells; s = s; p = p - 1; address = (address + 1) % 2 ^ 32 }
+caughtLevel cells s p address = record { cells = cells; s = s; p = p; address = (address + 1) % 2 ^ 32 }
+
+-- the same links with other return cells, subroutine levels or exception levels, each stack with its pointer
+abbrev pub withReturns : List ℕ → ℕ → Links → Links
+withReturns returns r l =
+    record { returns = returns; r = r; frames = l .frames; s = l .s; levels = l .levels; e = l .e }
+
+abbrev pub withFrames : List Frame → ℕ → Links → Links
+withFrames frames s l =
+    record { returns = l .returns; r = l .r; frames = frames; s = s; levels = l .levels; e = l .e }
+
+abbrev pub withLevels : List Level → ℕ → Links → Links
+withLevels levels e l =
+    record { returns = l .returns; r = l .r; frames = l .frames; s = l .s; levels = levels; e = e }
+
+-- a return cell is pushed
+abbrev pub pushed : ℕ → Links → Links
+pushed x l = withReturns (set (l .returns) (l .r) x) (suc (l .r)) l
 
 -- a call writes the return address to the return stack and to a new subroutine level
 abbrev pub called : ℕ → Links → Links
 called address l =
-    record {
-      returns = set (l .returns) (l .r) address;
-      r = suc (l .r);
-      frames = set (l .frames) (suc (l .s)) (calledFrame (l .r) address);
-      s = suc (l .s);
-      levels = l .levels;
-      e = l .e;
-    }
+    withFrames (set (l .frames) (suc (l .s)) (calledFrame (l .r) address)) (suc (l .s)) (pushed address l)
+
+-- a CATCH does all that a call does, and pushes an exception level
+abbrev pub caught : ℕ → ℕ → Links → Links
+caught address p l =
+    withLevels (set (l .levels) (suc (l .e)) (caughtLevel (levelAt l (l .e) .cells) (l .s) p address)) (suc (l .e))
+    (called address l)
 
 -- the same links with other pointers: how levels and cells are dropped
 abbrev pub lowered : ℕ → ℕ → ℕ → Links → Links
-lowered r s e l = record { returns = l .returns; r = r; frames = l .frames; s = s; levels = l .levels; e = e }
+lowered r s e l = withReturns (l .returns) r (withFrames (l .frames) s (withLevels (l .levels) e l))
+
+-- a level with other locals, a level with other cells
+abbrev pub withLocals : List ℕ → Frame → Frame
+withLocals locals frame = record { locals = locals; r = frame .r; address = frame .address }
+
+abbrev pub withCells : List ℕ → Level → Level
+withCells cells level = record { cells = cells; s = level .s; p = level .p; address = level .address }
+
+-- the locals of level S and the cells of level E are written
+abbrev pub stored : List ℕ → List ℕ → Links → Links
+stored locals cells l =
+    withFrames (set (l .frames) (l .s) (withLocals locals (frameAt l (l .s)))) (l .s)
+    (withLevels (set (l .levels) (l .e) (withCells cells (levelAt l (l .e)))) (l .e) l)
 
 -- R> drops the top subroutine level too if R is then not greater than the copy that the level holds
 abbrev pub dropsFrame : Links → Bool
@@ -79,32 +109,12 @@ thrownP l = suc (copyOfP (l .levels) (l .e))
 
 abbrev pub act : Act → Links → Links
 act still l = l
-act (push x) l =
-    record
-    { returns = set (l .returns) (l .r) x; r = suc (l .r); frames = l .frames; s = l .s; levels = l .levels; e = l .e }
+act (push x) l = pushed x l
 act (call address) l = called address l
-act (catch address p) l =
-    record {
-      returns = called address l .returns;
-      r = called address l .r;
-      frames = called address l .frames;
-      s = called address l .s;
-      levels = set (l .levels) (suc (l .e)) (caughtLevel (levelAt l (l .e) .cells) (l .s) p address);
-      e = suc (l .e);
-    }
+act (catch address p) l = caught address p l
 act exit l = lowered (copyOfR (l .frames) (l .s)) (l .s - 1) (eAfterDrop l) l
 act pop l =
     lowered (l .r - 1) (pick (dropsFrame l) (l .s - 1) (l .s)) (pick (dropsFrame l) (eAfterDrop l) (l .e)) l
 act throw l = lowered (thrownR l) (thrownS l) (l .e - 1) l
-act (keep locals cells) l =
-    record {
-      returns = l .returns;
-      r = l .r;
-      frames = set (l .frames) (l .s)
-          (record { locals = locals; r = frameAt l (l .s) .r; address = frameAt l (l .s) .address });
-      s = l .s;
-      levels = set (l .levels) (l .e)
-          (record { cells = cells; s = levelAt l (l .e) .s; p = levelAt l (l .e) .p; address = levelAt l (l .e) .address });
-      e = l .e;
-    }
+act (keep locals cells) l = stored locals cells l
 act reset l = lowered 0 0 0 l

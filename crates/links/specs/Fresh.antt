@@ -1,5 +1,6 @@
 -- Fresh linked stacks: every number zero.
 use lib.ListN.{replicate}
+use Rattle.links.specs.Depths.{returnsDepth, framesCount, levelsCount, levelCells}
 use Rattle.links.specs.Actions.{noLocals}
 use Rattle.links.specs.declared.Frame.{Frame}
 use Rattle.links.specs.declared.Level.{Level}
@@ -9,15 +10,15 @@ unfoldable pub freshFrame : Frame
 freshFrame = record { locals = noLocals; r = 0; address = 0 }
 
 unfoldable pub freshLevel : Level
-freshLevel = record { cells = replicate 8 0; s = 0; p = 0; address = 0 }
+freshLevel = record { cells = replicate levelCells 0; s = 0; p = 0; address = 0 }
 
 unfoldable pub freshLinks : Links
 freshLinks =
     record {
-      returns = replicate 64 0;
+      returns = replicate returnsDepth 0;
       r = 0;
-      frames = replicate 33 freshFrame;
+      frames = replicate framesCount freshFrame;
       s = 0;
-      levels = replicate 9 freshLevel;
+      levels = replicate levelsCount freshLevel;
       e = 0;
     }

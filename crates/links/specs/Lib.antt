@@ -1,6 +1,13 @@
+-- how deep each stack may grow
+pub mod Depths
+-- the levels by number, their copies, and when links are well formed
 pub mod Linked
+-- what an action does to the links
 pub mod Actions
-pub mod Fresh
+-- when an action is not refused
 pub mod Allowed
+-- links whose every number is zero
+pub mod Fresh
+-- when links are what they were
 pub mod Restored
 pub mod Laws

@@ -1,10 +1,12 @@
 -- The linked stacks as document 01 has them, and when they are well formed.
 use mathlib.Core.Bool.{Bool, true}
+use mathlib.Core.Path.{_≡_}
 use mathlib.Core.List.{List, []}
 use Prim.Native.Nat.{ℕ, zero, suc}
 use lib.Dec.{ltb, leb}
-use lib.ListN.{getD}
+use lib.ListN.{getD, length}
 use Rattle.plain.specs.Choice.{both}
+use Rattle.links.specs.Depths.{returnsDepth, subroutinesDepth, exceptionsDepth, mostCopyOfP, framesCount, levelsCount}
 use Rattle.links.specs.declared.Frame.{Frame}
 use Rattle.links.specs.declared.Level.{Level}
 use Rattle.links.specs.declared.Links.{Links}
@@ -43,11 +45,17 @@ abbrev pub within : (ℕ → ℕ) → ℕ → ℕ → Bool
 within copy limit zero = true
 within copy limit (suc n) = both (leb (copy (suc n)) limit) (within copy limit n)
 
--- well formed: the pointers within the depths 64, 32 and 8; the copies of R, S and P as document 01 asks
+-- well formed: the pointers within the depths; the copies of R, S and P as document 01 asks
 unfoldable pub linked : Links → Bool
 linked l =
-    both (leb (l .r) 64)
-    (both (leb (l .s) 32)
-    (both (leb (l .e) 8)
+    both (leb (l .r) returnsDepth)
+    (both (leb (l .s) subroutinesDepth)
+    (both (leb (l .e) exceptionsDepth)
     (both (rises (copyOfR (l .frames)) (l .r) (l .s))
-    (both (rises (copyOfS (l .levels)) (l .s) (l .e)) (within (copyOfP (l .levels)) 63 (l .e))))))
+    (both (rises (copyOfS (l .levels)) (l .s) (l .e)) (within (copyOfP (l .levels)) mostCopyOfP (l .e))))))
+
+-- the lists are as long as the arrays that they stand for
+pub record Shaped (l : Links) : Type 0 where
+  pub returns-long : length (l .returns) ≡ returnsDepth
+  pub frames-long : length (l .frames) ≡ framesCount
+  pub levels-long : length (l .levels) ≡ levelsCount

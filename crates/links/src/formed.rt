@@ -1,13 +1,15 @@
 // The three loops of the test for well-formed links, each from the top level down to level 1.
 use crate::Frame;
 use crate::Level;
+use crate::Links;
 ghost use mathlib.Core.Path.{_≡_};
 ghost use Prim.Native.Nat.{_≤_};
+ghost use Rattle.links.specs.Depths.{subroutinesDepth, exceptionsDepth, mostCopyOfP};
 ghost use Rattle.links.specs.Linked.{copyOfR, copyOfS, copyOfP, rises, within};
 
 // The copies of R rise strictly up to level s, with the last below r.
-pub(crate) fn returns_rise(frames: [Frame; 33], r: usize, s: usize) -> bool
-    requires { ⌜ s ≤ 32 ⌝ }
+pub(crate) fn returns_rise(frames: [Frame; Links::FRAMES], r: usize, s: usize) -> bool
+    requires { ⌜ s ≤ subroutinesDepth ⌝ }
     ensures { λ b. ⌜ b ≡ rises (copyOfR frames) r s ⌝ }
 {
     let mut top = r;
@@ -24,8 +26,8 @@ pub(crate) fn returns_rise(frames: [Frame; 33], r: usize, s: usize) -> bool
 }
 
 // The copies of S rise strictly up to level e, with the last below s.
-pub(crate) fn subroutines_rise(levels: [Level; 9], s: usize, e: usize) -> bool
-    requires { ⌜ e ≤ 8 ⌝ }
+pub(crate) fn subroutines_rise(levels: [Level; Links::LEVELS], s: usize, e: usize) -> bool
+    requires { ⌜ e ≤ exceptionsDepth ⌝ }
     ensures { λ b. ⌜ b ≡ rises (copyOfS levels) s e ⌝ }
 {
     let mut top = s;
@@ -42,14 +44,14 @@ pub(crate) fn subroutines_rise(levels: [Level; 9], s: usize, e: usize) -> bool
 }
 
 // A copy of P leaves room for the code that a THROW pushes.
-pub(crate) fn depths_within(levels: [Level; 9], e: usize) -> bool
-    requires { ⌜ e ≤ 8 ⌝ }
-    ensures { λ b. ⌜ b ≡ within (copyOfP levels) 63 e ⌝ }
+pub(crate) fn depths_within(levels: [Level; Links::LEVELS], e: usize) -> bool
+    requires { ⌜ e ≤ exceptionsDepth ⌝ }
+    ensures { λ b. ⌜ b ≡ within (copyOfP levels) mostCopyOfP e ⌝ }
 {
     let mut n = e;
     while 0 < n {
         let level = levels[n];
-        if 63 < level.p {
+        if Links::MOST_COPY_OF_P < level.p {
             return false;
         }
         n = n - 1;

@@ -9,7 +9,7 @@ fn frame() -> Frame
     ensures { λ r. ⌜ r ≡ freshFrame ⌝ }
 {
     Frame {
-        locals: [0u32; 16],
+        locals: [0u32; Frame::LOCALS],
         r: 0,
         address: 0,
     }
@@ -19,7 +19,7 @@ fn level() -> Level
     ensures { λ r. ⌜ r ≡ freshLevel ⌝ }
 {
     Level {
-        cells: [0u32; 8],
+        cells: [0u32; Level::CELLS],
         s: 0,
         p: 0,
         address: 0,
@@ -31,9 +31,9 @@ pub(crate) fn links() -> Links
 {
     let frame = frame();
     let level = level();
-    let returns = [0u32; 64];
-    let frames = [frame; 33];
-    let levels = [level; 9];
+    let returns = [0u32; Links::RETURNS];
+    let frames = [frame; Links::FRAMES];
+    let levels = [level; Links::LEVELS];
     Links {
         returns,
         r: 0,

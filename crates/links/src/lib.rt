@@ -10,30 +10,55 @@ ghost use Rattle.links.specs.Linked.{linked};
 
 // A subroutine level: its locals, the copy of R and the return address (levels from 1; level 0 leaves both at zero).
 pub struct Frame {
-    pub locals: [u32; 16],
+    pub locals: [u32; Frame::LOCALS],
     pub r: usize,
     pub address: u32,
 }
 
 // An exception level: its cells, the copies of S and of P and the throw address (levels from 1; level 0 leaves the three at zero).
 pub struct Level {
-    pub cells: [u32; 8],
+    pub cells: [u32; Level::CELLS],
     pub s: usize,
     pub p: usize,
     pub address: u32,
 }
 
-// Levels 0 to 32 and 0 to 8 are 33 frames and 9 exception levels, while the depths are 32 and 8.
+// The return cells with R, the subroutine levels with S and the exception levels with E.
 pub struct Links {
-    pub returns: [u32; 64],
+    pub returns: [u32; Links::RETURNS],
     pub r: usize,
-    pub frames: [Frame; 33],
+    pub frames: [Frame; Links::FRAMES],
     pub s: usize,
-    pub levels: [Level; 9],
+    pub levels: [Level; Links::LEVELS],
     pub e: usize,
 }
 
+impl Frame {
+    pub const LOCALS: usize = 16;
+}
+
+impl Level {
+    pub const CELLS: usize = 8;
+}
+
 impl Links {
+    // How deep each stack may grow.
+    pub const RETURNS: usize = 64;
+
+    pub const SUBROUTINES: usize = 32;
+
+    pub const EXCEPTIONS: usize = 8;
+
+    // The parameter stack's depth: a copy of P leaves room in it for the code that a THROW pushes.
+    pub const CELLS: usize = 64;
+
+    pub const MOST_COPY_OF_P: usize = Links::CELLS - 1;
+
+    // Level 0 is there too: 33 frames and 9 exception levels.
+    pub const FRAMES: usize = Links::SUBROUTINES + 1;
+
+    pub const LEVELS: usize = Links::EXCEPTIONS + 1;
+
     // Links whose every number is zero.
     pub fn fresh() -> Links
         ensures { λ r. ⌜ r ≡ freshLinks ⌝ }
@@ -47,13 +72,13 @@ impl Links {
 pub fn well_formed(links: Links) -> bool
     ensures { λ r. ⌜ r ≡ linked links ⌝ }
 {
-    if 64 < links.r {
+    if Links::RETURNS < links.r {
         return false;
     }
-    if 32 < links.s {
+    if Links::SUBROUTINES < links.s {
         return false;
     }
-    if 8 < links.e {
+    if Links::EXCEPTIONS < links.e {
         return false;
     }
     let frames = links.frames;

@@ -4,60 +4,45 @@ use mathlib.Core.List.{List, [], _∷_}
 use Prim.Native.Nat.{ℕ, _+_}
 use lib.Dec.{ltb, leb, eqb}
 use lib.ListN.{length}
-use Rattle.plain.specs.Choice.{both}
+use Rattle.plain.specs.Choice.{pick, both, not, decided}
+use Rattle.links.specs.Depths.{cellsDepth, returnsDepth, subroutinesDepth, exceptionsDepth}
 use Rattle.links.specs.Actions.{Act, still, push, call, catch, exit, pop, throw, keep, reset}
-use Rattle.machine.specs.Codes.{known, entryAt}
+use Rattle.machine.specs.Codes.{entryAt}
 use Rattle.machine.specs.Fetch.{Instruction}
-use Rattle.machine.specs.Rows.{Row, Asks, nothing, aReturnCell, aPlace, aDivisor}
+use Rattle.machine.specs.Rows.{Row, Lack, aReturnCell, aPlace, aDivisor, Lack-discrete}
 use Rattle.machine.specs.declared.Machine.{Machine}
 
-abbrev pub not : Bool → Bool
-not true = false
-not false = true
+-- what an action needs of the linked stacks
+pub data Need : Type 0 where
+  -- a subroutine level to leave, an exception level to throw to
+  aFrame aLevel : Need
+  -- room for a return cell, for a subroutine level, for an exception level
+  returnRoom frameRoom levelRoom : Need
+  deriving Discrete as Need-discrete
 
-abbrev pub wantsReturnCell : Asks → Bool
-wantsReturnCell nothing = false
-wantsReturnCell aReturnCell = true
-wantsReturnCell aPlace = false
-wantsReturnCell aDivisor = false
+abbrev pub needs : Act → List Need
+needs still = []
+needs (push x) = returnRoom ∷ []
+needs (call address) = returnRoom ∷ frameRoom ∷ []
+needs (catch address p) = returnRoom ∷ frameRoom ∷ levelRoom ∷ []
+needs exit = aFrame ∷ []
+needs pop = []
+needs throw = aLevel ∷ []
+needs (keep locals cells) = []
+needs reset = []
 
-abbrev pub wantsPlace : Asks → Bool
-wantsPlace nothing = false
-wantsPlace aReturnCell = false
-wantsPlace aPlace = true
-wantsPlace aDivisor = false
+abbrev pub among : Need → List Need → Bool
+among x [] = false
+among x (y ∷ ys) = pick (decided (Need-discrete x y)) true (among x ys)
 
-abbrev pub wantsDivisor : Asks → Bool
-wantsDivisor nothing = false
-wantsDivisor aReturnCell = false
-wantsDivisor aPlace = false
-wantsDivisor aDivisor = true
+-- what the row's action needs, what the row lacks
+abbrev pub wants : Row → Need → Bool
+wants row need = among need (needs (row .link))
 
--- what an action on the links needs: a subroutine level to leave, an exception level to throw to, room for a return cell,
--- for a subroutine level, for an exception level
-pub record Needs : Type 0 where
-  pub frame : Bool
-  pub level : Bool
-  pub returnRoom : Bool
-  pub frameRoom : Bool
-  pub levelRoom : Bool
+abbrev pub lacks : Row → Lack → Bool
+lacks row lack = decided (Lack-discrete (row .lack) lack)
 
-abbrev pub needing : Bool → Bool → Bool → Bool → Bool → Needs
-needing frame level returnRoom frameRoom levelRoom =
-    record { frame = frame; level = level; returnRoom = returnRoom; frameRoom = frameRoom; levelRoom = levelRoom }
-
-abbrev pub needs : Act → Needs
-needs still = needing false false false false false
-needs (push x) = needing false false true false false
-needs (call a) = needing false false true true false
-needs (catch a p) = needing false false true true true
-needs exit = needing true false false false false
-needs pop = needing false false false false false
-needs throw = needing false true false false false
-needs (keep l c) = needing false false false false false
-needs reset = needing false false false false false
-
--- a test that refuses with its number where it holds
+-- a test that answers with its number where it holds
 pub record Test : Type 0 where
   pub number : ℕ
   pub holds : Bool
@@ -67,27 +52,32 @@ test number holds = record { number = number; holds = holds }
 
 abbrev pub tests : Instruction → Machine → Row → List Test
 tests i m row =
-    -- EXIT with S = 0: finished
-    test 0 (both (needs (row .link) .frame) (eqb (m .links .s) 0)) ∷
+    -- EXIT with S = 0: the end of the program
+    test 0 (both (wants row aFrame) (eqb (m .links .s) 0)) ∷
     -- a byte of the instruction is outside memory
     test 3 (i .outside) ∷
     -- unknown code
-    test 4 (not (known (entryAt (i .code) .op))) ∷
+    test 4 (not (entryAt (i .code) .known)) ∷
     -- fewer parameter cells than the code takes
     test 5 (ltb (m .p) (entryAt (i .code) .takes)) ∷
     -- R> or R@ with R = 0
-    test 6 (both (wantsReturnCell (row .asks)) (eqb (m .links .r) 0)) ∷
+    test 6 (lacks row aReturnCell) ∷
     -- THROW of non-zero with E = 0
-    test 7 (both (needs (row .link) .level) (eqb (m .links .e) 0)) ∷
+    test 7 (both (wants row aLevel) (eqb (m .links .e) 0)) ∷
     -- P would pass 64
-    test 8 (ltb 64 (row .keeps + length (row .puts))) ∷
+    test 8 (ltb cellsDepth (row .keeps + length (row .puts))) ∷
     -- R would pass 64
-    test 9 (both (needs (row .link) .returnRoom) (leb 64 (m .links .r))) ∷
+    test 9 (both (wants row returnRoom) (leb returnsDepth (m .links .r))) ∷
     -- S would pass 32
-    test 10 (both (needs (row .link) .frameRoom) (leb 32 (m .links .s))) ∷
+    test 10 (both (wants row frameRoom) (leb subroutinesDepth (m .links .s))) ∷
     -- E would pass 8
-    test 11 (both (needs (row .link) .levelRoom) (leb 8 (m .links .e))) ∷
+    test 11 (both (wants row levelRoom) (leb exceptionsDepth (m .links .e))) ∷
     -- address neither in memory nor a listed cell
-    test 12 (wantsPlace (row .asks)) ∷
+    test 12 (lacks row aPlace) ∷
     -- divisor zero
-    test 13 (wantsDivisor (row .asks)) ∷ []
+    test 13 (lacks row aDivisor) ∷ []
+
+-- whether the test with this number holds, wherever it stands in the list
+abbrev pub holdsAt : ℕ → List Test → Bool
+holdsAt number [] = false
+holdsAt number (t ∷ ts) = pick (eqb (t .number) number) (t .holds) (holdsAt number ts)

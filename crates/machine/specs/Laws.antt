@@ -1,11 +1,22 @@
+-- a table's rule at all of its entries
 pub mod Tables
+-- what a step that is carried out tells: no test held, and its row was put
 pub mod Passed
+-- clock cycles: from 1 to 42 for each instruction
 pub mod Costs
-pub mod Flags
-pub mod Marks
-pub mod Told
-pub mod Granted
-pub mod Kept
-pub mod Acts
+-- what an instruction takes, by its code
 pub mod Prices
+-- the instructions on the linked stacks stand at one code each
+pub mod Marks
+-- what every row keeps, kind by kind
+pub mod Told
+-- the tests let through only actions that the linked stacks allow
+pub mod Granted
+-- a step keeps a well-formed state well formed
+pub mod Kept
+-- a step is one action on the linked stacks, and an allowed one
+pub mod Acts
+-- readings that document 01 rules out
 pub mod Readings
+-- the starred lines of the bench sheet
+pub mod Starred

@@ -1,10 +1,21 @@
+-- the memory's length and the budget's limit
+pub mod Limits
+-- when a state is well formed, and the fresh machine
 pub mod State
+-- the codes: a table of what depends on a code alone
 pub mod Codes
+-- where an access lies
 pub mod Memory
+-- the instruction at the program counter
 pub mod Fetch
+-- what each instruction does, a row for each
 pub mod Rows
+-- the tests before an instruction, in the order of their numbers
 pub mod Checks
+-- one instruction: refused with a number, or carried out
 pub mod Step
+-- a run under a budget
 pub mod Run
+-- the starred lines of the bench sheet
 pub mod Sheet
 pub mod Laws

@@ -5,29 +5,27 @@ use lib.Dec.{eqb}
 use lib.ListN.{getD, set}
 use lib.Seq.{sets}
 use Rattle.plain.specs.Choice.{pick}
+use Rattle.numbers.specs.Bytes.{numberAt, bytesOf}
 use Rattle.links.specs.Linked.{frameAt, levelAt, copyOfP}
 use Rattle.links.specs.Actions.{Act, still, push, call, catch, exit, pop, throw, keep, reset}
 use Rattle.word.specs.Dispatch.{oneCellOf, twoCellsOf}
 use Rattle.word.specs.declared.Changed.{Changed}
 use Rattle.word.specs.declared.Outcome.{Outcome}
 use Rattle.word.specs.declared.Outcome.the-variants.{Single, Double, DivisorZero}
-use Rattle.machine.specs.Codes.{Op, NOP, DROP, DUP, SWAP, OVER, NIP, ROT, >R, R-AT, R>, PSP-AT, CATCH, RESETSP, THROW, ZERO, DUP-NONZERO, JMP, JSL, JSR, EXIT, BEQ, BRA, UNKNOWN, ONE, TWO, FETCH, STORE, LITERAL, Entry, entryAt}
-use Rattle.machine.specs.Memory.{numberAt, bytesOf, placeOf}
+use Rattle.machine.specs.Codes.{Shuffle, NOP, DROP, DUP, SWAP, OVER, NIP, ROT, PSP-AT, ZERO, DUP-NONZERO, Jump, JMP, BEQ, BRA, Link, >R, R-AT, R>, CATCH, RESETSP, THROW, JSL, JSR, EXIT, Op, SHUFFLE, JUMP, LINK, ONE, TWO, FETCH, STORE, LITERAL, entryAt}
+use Rattle.machine.specs.Memory.{size, placeOf}
 use Rattle.machine.specs.Fetch.{Instruction}
 use Rattle.machine.specs.declared.Machine.{Machine}
 use Rattle.machine.specs.declared.Width.{Width}
 use Rattle.machine.specs.declared.Place.{Place}
 use Rattle.machine.specs.declared.Place.the-variants.{Memory, Local, Cell, Nowhere}
 
--- what an instruction asks for besides cells and room on the stacks, or finds missing
-pub data Asks : Type 0 where
-  nothing : Asks
-  -- a return cell to read
-  aReturnCell : Asks
-  -- its address is neither in memory nor a listed cell
-  aPlace : Asks
-  -- its divisor is zero
-  aDivisor : Asks
+-- what an instruction finds missing, besides cells and room on the stacks
+pub data Lack : Type 0 where
+  nothing : Lack
+  -- a return cell to read; a place in memory or a listed cell at its address; a divisor that is not zero
+  aReturnCell aPlace aDivisor : Lack
+  deriving Discrete as Lack-discrete
 
 pub record Row : Type 0 where
   -- the depth under the cells that are put, and those cells, deepest first
@@ -39,11 +37,11 @@ pub record Row : Type 0 where
   pub goes : ℕ
   pub flag : ℕ
   pub memory : List ℕ
-  pub asks : Asks
+  pub lack : Lack
 
-abbrev pub make : ℕ → List ℕ → Act → ℕ → ℕ → List ℕ → Asks → Row
-make keeps puts link goes flag memory asks =
-    record { keeps = keeps; puts = puts; link = link; goes = goes; flag = flag; memory = memory; asks = asks }
+abbrev pub make : ℕ → List ℕ → Act → ℕ → ℕ → List ℕ → Lack → Row
+make keeps puts link goes flag memory lack =
+    record { keeps = keeps; puts = puts; link = link; goes = goes; flag = flag; memory = memory; lack = lack }
 
 -- the top cell, the one under it and the third
 abbrev pub top : Machine → ℕ
@@ -79,29 +77,57 @@ module _ (i : Instruction) (mem : List ℕ) (m : Machine) where
   abbrev pub jump : Act → ℕ → Row
   jump link goes = make under [] link goes (m .flag) mem nothing
 
-  -- refused for what it asks
-  abbrev pub lacks : Asks → Row
-  lacks asks = make under [] still (i .next) (m .flag) mem asks
+  -- refused for what is missing
+  abbrev pub lacking : Lack → Row
+  lacking lack = make under [] still (i .next) (m .flag) mem lack
+
+  -- puts cells and leaves a flag
+  abbrev pub worked : List ℕ → ℕ → Row
+  worked puts flag = make under puts still (i .next) flag mem nothing
 
   abbrev pub oneRow : Changed → Row
-  oneRow c = make under (c .value ∷ []) still (i .next) (c .flag) mem nothing
+  oneRow c = worked (c .value ∷ []) (c .flag)
 
   abbrev pub twoRow : Outcome → Row
-  twoRow (Single value flag) = make under (value ∷ []) still (i .next) flag mem nothing
-  twoRow (Double lower upper flag) = make under (lower ∷ upper ∷ []) still (i .next) flag mem nothing
-  twoRow DivisorZero = lacks aDivisor
+  twoRow (Single value flag) = worked (value ∷ []) flag
+  twoRow (Double lower upper flag) = worked (lower ∷ upper ∷ []) flag
+  twoRow DivisorZero = lacking aDivisor
 
   abbrev pub fetchRow : Width → Place → Row
-  fetchRow w (Memory a) = cells (numberAt w mem a ∷ [])
+  fetchRow w (Memory a) = cells (numberAt (size w) mem a ∷ [])
   fetchRow w (Local k) = cells (getD (localsInView m) k 0 ∷ [])
   fetchRow w (Cell k) = cells (getD (cellsInView m) k 0 ∷ [])
-  fetchRow w Nowhere = lacks aPlace
+  fetchRow w Nowhere = lacking aPlace
 
   abbrev pub storeRow : Width → Place → Row
-  storeRow w (Memory a) = make under [] still (i .next) (m .flag) (sets mem a (bytesOf w (second m))) nothing
+  storeRow w (Memory a) = make under [] still (i .next) (m .flag) (sets mem a (bytesOf (size w) (second m))) nothing
   storeRow w (Local k) = jump (keep (set (localsInView m) k (second m)) (cellsInView m)) (i .next)
   storeRow w (Cell k) = jump (keep (localsInView m) (set (cellsInView m) k (second m))) (i .next)
-  storeRow w Nowhere = lacks aPlace
+  storeRow w Nowhere = lacking aPlace
+
+  -- the cells that a shuffle puts
+  abbrev pub shuffled : Shuffle → List ℕ
+  shuffled NOP = []
+  shuffled DROP = []
+  shuffled DUP = top m ∷ top m ∷ []
+  shuffled SWAP = top m ∷ second m ∷ []
+  shuffled OVER = second m ∷ top m ∷ second m ∷ []
+  shuffled NIP = top m ∷ []
+  shuffled ROT = second m ∷ top m ∷ third m ∷ []
+  shuffled PSP-AT = m .p ∷ []
+  shuffled ZERO = 0 ∷ []
+  shuffled DUP-NONZERO = pick (eqb (top m) 0) (top m ∷ []) (top m ∷ top m ∷ [])
+
+  -- where a jump goes
+  abbrev pub target : Jump → ℕ
+  target JMP = top m
+  target BEQ = pick (eqb (top m) 0) (i .operand) (i .next)
+  target BRA = i .operand
+
+  -- R@ and R> put the top return cell
+  abbrev pub returnRow : Act → Row
+  returnRow link =
+      make under (topReturn m ∷ []) link (i .next) (m .flag) mem (pick (eqb (m .links .r) 0) aReturnCell nothing)
 
   -- THROW of non-zero: P to its copy with the code pushed, and on at the throw address
   abbrev pub throwRow : Row
@@ -109,32 +135,23 @@ module _ (i : Instruction) (mem : List ℕ) (m : Machine) where
       make (copyOfP (m .links .levels) (m .links .e)) (top m ∷ []) throw
       (levelAt (m .links) (m .links .e) .address) (m .flag) mem nothing
 
+  abbrev pub linkRow : Link → Row
+  linkRow >R = jump (push (top m)) (i .next)
+  linkRow R-AT = returnRow still
+  linkRow R> = returnRow pop
+  linkRow CATCH = jump (catch (i .next) under) (top m)
+  linkRow RESETSP = make 0 [] reset (i .next) (m .flag) mem nothing
+  linkRow THROW = pick (eqb (top m) 0) (cells []) throwRow
+  linkRow JSL = jump (call (i .next)) (i .operand)
+  linkRow JSR = jump (call (i .next)) (top m)
+  linkRow EXIT = jump exit (frameAt (m .links) (m .links .s) .address)
+
   unfoldable pub rowOf : Op → Row
-  rowOf NOP = cells []
-  rowOf DROP = cells []
-  rowOf DUP = cells (top m ∷ top m ∷ [])
-  rowOf SWAP = cells (top m ∷ second m ∷ [])
-  rowOf OVER = cells (second m ∷ top m ∷ second m ∷ [])
-  rowOf NIP = cells (top m ∷ [])
-  rowOf ROT = cells (second m ∷ top m ∷ third m ∷ [])
-  rowOf >R = jump (push (top m)) (i .next)
-  rowOf R-AT = make under (topReturn m ∷ []) still (i .next) (m .flag) mem aReturnCell
-  rowOf R> = make under (topReturn m ∷ []) pop (i .next) (m .flag) mem aReturnCell
-  rowOf PSP-AT = cells (m .p ∷ [])
-  rowOf CATCH = jump (catch (i .next) (m .p)) (top m)
-  rowOf RESETSP = make 0 [] reset (i .next) (m .flag) mem nothing
-  rowOf THROW = pick (eqb (top m) 0) (cells []) throwRow
+  rowOf (SHUFFLE o) = cells (shuffled o)
+  rowOf (JUMP o) = jump still (target o)
+  rowOf (LINK o) = linkRow o
   rowOf (ONE o) = oneRow (oneCellOf o (top m) (m .flag))
   rowOf (TWO o) = twoRow (twoCellsOf o (second m) (top m) (m .flag))
-  rowOf ZERO = cells (0 ∷ [])
   rowOf (FETCH w) = fetchRow w (placeOf w (top m))
   rowOf (STORE w) = storeRow w (placeOf w (top m))
-  rowOf DUP-NONZERO = cells (pick (eqb (top m) 0) (top m ∷ []) (top m ∷ top m ∷ []))
-  rowOf (LITERAL w) = cells (i .operand ∷ [])
-  rowOf JMP = jump still (top m)
-  rowOf JSL = jump (call (i .next)) (i .operand)
-  rowOf JSR = jump (call (i .next)) (top m)
-  rowOf EXIT = jump exit (frameAt (m .links) (m .links .s) .address)
-  rowOf BEQ = jump still (pick (eqb (top m) 0) (i .operand) (i .next))
-  rowOf BRA = jump still (i .operand)
-  rowOf UNKNOWN = cells []
+  rowOf LITERAL = cells (i .operand ∷ [])

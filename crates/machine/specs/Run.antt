@@ -1,10 +1,11 @@
 -- A run under a budget: its instructions one after another, steps and cycles counted.
 use mathlib.Core.Bool.{Bool, true, false}
 use mathlib.Core.List.{List}
-use Prim.Native.Nat.{ℕ, zero, suc, _+_}
+use Prim.Native.Nat.{ℕ, zero, suc, _+_, _*_, _≤_}
 use lib.Dec.{leb, eqb}
 use lib.ListN.{length}
 use Rattle.plain.specs.Choice.{both}
+use Rattle.machine.specs.Limits.{memoryLength, mostBudget}
 use Rattle.machine.specs.State.{wellFormed}
 use Rattle.machine.specs.Step.{Stepped, refused, done, stepOf}
 use Rattle.machine.specs.declared.Machine.{Machine}
@@ -15,12 +16,17 @@ pub record After : Type 0 where
   pub memory : List ℕ
   pub ran : Ran
 
+abbrev pub afterOf : List ℕ → Ran → After
+afterOf memory ran = record { memory = memory; ran = ran }
+
 abbrev pub ended : ℕ → List ℕ → Machine → ℕ → ℕ → After
 ended answer mem m steps cycles =
-    record {
-      memory = mem;
-      ran = record { answer = answer; steps = record { 0 = steps }; cycles = record { 0 = cycles }; machine = m };
-    }
+    afterOf mem (record { answer = answer; steps = record { 0 = steps }; cycles = record { 0 = cycles }; machine = m })
+
+-- n steps, from n to 42n cycles
+pub record Counted (a : After) : Type 0 where
+  pub least : a .ran .steps .0 ≤ a .ran .cycles .0
+  pub most : a .ran .cycles .0 ≤ 42 * a .ran .steps .0
 
 -- the run from here: instructions left in the budget, then the steps and cycles counted so far.
 -- Before each instruction a spent budget ends the run with 1; a completed instruction is one step.
@@ -34,7 +40,7 @@ runFrom (suc left) mem m steps cycles =
 
 -- memory length, budget and state as document 01 asks
 unfoldable pub acceptable : List ℕ → Machine → ℕ → Bool
-acceptable mem m budget = both (eqb (length mem) 32768) (both (leb budget 1000000) (wellFormed m))
+acceptable mem m budget = both (eqb (length mem) memoryLength) (both (leb budget mostBudget) (wellFormed m))
 
 -- answer 2 is tested before the first instruction, and alters nothing
 unfoldable pub runOf : List ℕ → Machine → ℕ → After

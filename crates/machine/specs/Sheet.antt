@@ -1,14 +1,14 @@
--- The starred lines of document 01's bench sheet, as one table with one theorem, computed over the definition.
+-- The starred lines of document 01's bench sheet, as one table. That all come out so is one theorem (Laws/Starred.antt).
 use mathlib.Core.Bool.{Bool, true, false}
-use mathlib.Core.List.{List, [], _∷_, _++_}
-use Prim.Native.Nat.{ℕ, _-_}
-use lib.Dec.{T, eqb}
-use lib.ListN.{length, replicate, take}
-use lib.Seq.{sets}
+use mathlib.Core.List.{List, [], _∷_}
+use Prim.Native.Nat.{ℕ}
+use lib.Dec.{eqb}
+use lib.ListN.{take}
 use Rattle.plain.specs.Choice.{both}
-use Rattle.machine.specs.State.{freshMachine, wellFormed}
+use Rattle.plain.specs.Zeros.{padded}
+use Rattle.machine.specs.Limits.{memoryLength}
+use Rattle.machine.specs.State.{machineWith}
 use Rattle.machine.specs.Run.{After, runOf}
-use Rattle.machine.specs.declared.Machine.{Machine}
 
 -- a case: the code from address 0, the parameter cells deepest first, the budget; then what must come out:
 -- answer, steps, cycles, program counter, P, R, S, E, and the parameter cells deepest first
@@ -23,47 +23,31 @@ abbrev pub case : List ℕ → List ℕ → ℕ → List ℕ → List ℕ → Ca
 case code cells budget result left =
     record { code = code; cells = cells; budget = budget; result = result; left = left }
 
--- the whole memory, with the code from address 0
-memoryOf : List ℕ → List ℕ
-memoryOf code = code ++ replicate (32768 - length code) 0
-
--- a fresh machine but for its parameter cells
-loaded : List ℕ → Machine
-unfolding freshMachine
-loaded cells =
-    record {
-      cells = sets (freshMachine .cells) 0 cells;
-      p = length cells;
-      links = freshMachine .links;
-      counter = 0;
-      flag = 0;
-    }
-
 -- what the bench program's line and cells say of a run
-resultOf : After → List ℕ
+abbrev pub resultOf : After → List ℕ
 resultOf a =
     a .ran .answer ∷ a .ran .steps .0 ∷ a .ran .cycles .0 ∷ a .ran .machine .counter ∷ a .ran .machine .p ∷
     a .ran .machine .links .r ∷ a .ran .machine .links .s ∷ a .ran .machine .links .e ∷ []
 
-leftOf : After → List ℕ
+abbrev pub leftOf : After → List ℕ
 leftOf a = take (a .ran .machine .p) (a .ran .machine .cells)
 
-same : List ℕ → List ℕ → Bool
+abbrev pub same : List ℕ → List ℕ → Bool
 same [] [] = true
 same [] (y ∷ ys) = false
 same (x ∷ xs) [] = false
 same (x ∷ xs) (y ∷ ys) = both (eqb x y) (same xs ys)
 
-pub right : Case → Bool
+abbrev pub right : Case → Bool
 right c =
-    let a = runOf (memoryOf (c .code)) (loaded (c .cells)) (c .budget) in
+    let a = runOf (padded memoryLength (c .code)) (machineWith (c .cells)) (c .budget) in
     both (same (resultOf a) (c .result)) (same (leftOf a) (c .left))
 
-pub allRight : List Case → Bool
+abbrev pub allRight : List Case → Bool
 allRight [] = true
 allRight (c ∷ cs) = both (right c) (allRight cs)
 
-pub starred : List Case
+abbrev pub starred : List Case
 starred =
     -- a word is caught and throws FF
     case
@@ -93,14 +77,3 @@ starred =
     -- 2/ on 80000001, XBYTE on 80
     case (0x13 ∷ 0x3D ∷ []) (0x80000001 ∷ []) 1000 (0 ∷ 1 ∷ 1 ∷ 1 ∷ 1 ∷ 0 ∷ 0 ∷ 0 ∷ []) (0xC0000000 ∷ []) ∷
     case (0x27 ∷ 0x3D ∷ []) (0x80 ∷ []) 1000 (0 ∷ 1 ∷ 1 ∷ 1 ∷ 1 ∷ 0 ∷ 0 ∷ 0 ∷ []) (0xFFFFFF80 ∷ []) ∷ []
-
--- every starred case comes out as document 01 says
-pub starred-right : T (allRight starred)
-unfolding allRight right starred same resultOf leftOf loaded memoryOf
-    Rattle.machine.specs.Run.runOf Rattle.machine.specs.Run.runFrom Rattle.machine.specs.Run.acceptable
-    wellFormed freshMachine
-    Rattle.links.specs.Linked.linked Rattle.links.specs.Fresh.freshLinks Rattle.links.specs.Fresh.freshFrame Rattle.links.specs.Fresh.freshLevel Rattle.links.specs.Actions.noLocals
-    Rattle.machine.specs.Step.stepOf Rattle.machine.specs.Step.carried Rattle.machine.specs.Fetch.instructionAt
-    Rattle.machine.specs.Rows.rowOf Rattle.machine.specs.Codes.entryAt Rattle.machine.specs.Codes.table Rattle.machine.specs.Memory.placeOf
-    Rattle.word.specs.Dispatch.oneCellOf Rattle.word.specs.Dispatch.twoCellsOf
-starred-right = tt

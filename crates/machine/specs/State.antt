@@ -1,16 +1,31 @@
 -- The state's well-formedness, and the fresh machine: document 01, "The machine".
 use mathlib.Core.Bool.{Bool}
+use mathlib.Core.List.{List, []}
+use mathlib.Core.Path.{_≡_}
+use Prim.Native.Nat.{ℕ}
 use lib.Dec.{leb}
-use lib.ListN.{replicate}
+use lib.ListN.{length}
 use Rattle.plain.specs.Choice.{both}
-use Rattle.links.specs.Linked.{linked}
+use Rattle.plain.specs.Zeros.{padded}
+use Rattle.links.specs.Depths.{cellsDepth}
+use Rattle.links.specs.Linked.{linked, Shaped}
 use Rattle.links.specs.Fresh.{freshLinks}
 use Rattle.machine.specs.declared.Machine.{Machine}
 
 -- P within its depth, the flag 0 or 1, the linked stacks well formed
 unfoldable pub wellFormed : Machine → Bool
-wellFormed m = both (leb (m .p) 64) (both (leb (m .flag) 1) (linked (m .links)))
+wellFormed m = both (leb (m .p) cellsDepth) (both (leb (m .flag) 1) (linked (m .links)))
+
+-- the lists are as long as the arrays that they stand for
+pub record Whole (m : Machine) : Type 0 where
+  pub cells-long : length (m .cells) ≡ cellsDepth
+  pub shaped : Shaped (m .links)
+
+-- a fresh machine but for its parameter cells, deepest first
+unfoldable pub machineWith : List ℕ → Machine
+machineWith cells =
+    record { cells = padded cellsDepth cells; p = length cells; links = freshLinks; counter = 0; flag = 0 }
 
 -- every number zero
 unfoldable pub freshMachine : Machine
-freshMachine = record { cells = replicate 64 0; p = 0; links = freshLinks; counter = 0; flag = 0 }
+freshMachine = machineWith []

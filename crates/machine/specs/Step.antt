@@ -13,7 +13,7 @@ use Rattle.machine.specs.Checks.{Test, tests}
 use Rattle.machine.specs.declared.Machine.{Machine}
 
 pub data Stepped : Type 0 where
-  -- the answer number; nothing is altered
+  -- the answer number, 0 at the end of the program; nothing is altered
   refused : ℕ → Stepped
   -- the memory and the machine afterwards, and the instruction's clock cycles
   done : List ℕ → Machine → ℕ → Stepped
@@ -50,6 +50,13 @@ carry i row m = unless (tests i m row) (done (row .memory) (put row m) (costOf i
 unfoldable pub carried : Instruction → List ℕ → Machine → Stepped
 carried i mem m = carry i (rowOf i mem m (entryAt (i .code) .op)) m
 
--- the instruction at the program counter
+-- the row of the instruction at the program counter, and the tests before it
+abbrev pub rowAt : List ℕ → Machine → Row
+rowAt mem m = rowOf (instructionAt mem (m .counter)) mem m (entryAt (instructionAt mem (m .counter) .code) .op)
+
+abbrev pub testsAt : List ℕ → Machine → List Test
+testsAt mem m = tests (instructionAt mem (m .counter)) m (rowAt mem m)
+
+-- the instruction at the program counter is carried out, or refused
 unfoldable pub stepOf : List ℕ → Machine → Stepped
 stepOf mem m = carried (instructionAt mem (m .counter)) mem m

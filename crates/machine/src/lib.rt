@@ -4,12 +4,11 @@ mod costs;
 mod state;
 
 pub use costs::CYCLES;
-pub use costs::cycles_of;
 use links::Links;
 
 // The state: the parameter stack with its depth P, the three linked stacks, the program counter and the extend flag.
 pub struct Machine {
-    pub cells: [u32; 64],
+    pub cells: [u32; Machine::CELLS],
     pub p: usize,
     pub links: Links,
     pub counter: u32,

@@ -1,4 +1,4 @@
-// The fresh machine and the depths of its stacks.
+// The fresh machine, the depths of its stacks, and the limits of a run.
 use crate::Machine;
 use links::Links;
 ghost use mathlib.Core.Path.{_≡_};
@@ -6,20 +6,25 @@ ghost use Rattle.machine.specs.State.{freshMachine};
 
 impl Machine {
     // How deep each stack may grow.
-    pub const CELLS: usize = 64;
+    pub const CELLS: usize = Links::CELLS;
 
-    pub const RETURNS: usize = 64;
+    pub const RETURNS: usize = Links::RETURNS;
 
-    pub const SUBROUTINES: usize = 32;
+    pub const SUBROUTINES: usize = Links::SUBROUTINES;
 
-    pub const EXCEPTIONS: usize = 8;
+    pub const EXCEPTIONS: usize = Links::EXCEPTIONS;
+
+    // How many bytes the lent memory has, and the most steps that a budget may give.
+    pub const MEMORY: usize = 32768;
+
+    pub const BUDGET: u32 = 1000000;
 
     // A fresh machine has every number zero.
     pub fn fresh() -> Machine
         ensures { λ r. ⌜ r ≡ freshMachine ⌝ }
     {
         let links = Links::fresh();
-        let cells = [0u32; 64];
+        let cells = [0u32; Machine::CELLS];
         Machine {
             cells,
             p: 0,

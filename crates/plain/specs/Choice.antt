@@ -9,3 +9,12 @@ pick false a b = b
 abbrev pub both : Bool → Bool → Bool
 both true b = b
 both false b = false
+
+abbrev pub not : Bool → Bool
+not true = false
+not false = true
+
+-- the test of a fact that is decided
+abbrev pub decided : {A : Type 0} → Dec A → Bool
+decided (yes fact) = true
+decided (no other) = false

@@ -10,7 +10,8 @@ use Rattle.links.specs.Actions.{throw, act, lowered, dropsFrame, eAfterD
 use Rattle.plain.specs.Choice.{pick, both}
 use Rattle.links.specs.Laws.Kept.{lowered-shaped}
 use Rattle.links.specs.Linked.{copyOfR, copyOfS, copyOfP}
-use Rattle.links.specs.Restored.{Restored, Stands, Ended, by-throw}
+use Rattle.links.specs.Restored.{Restored}
+use Rattle.links.specs.Laws.Stands.{Stands, Gone, by-throw}
 use Rattle.links.specs.Laws.Rising.{last-below, ordered}
 use Rattle.links.specs.Laws.Sound.{Sound}
 use Rattle.links.specs.Laws.Tests.{drops, stays}
@@ -26,7 +27,6 @@ module _ (o : Links) (p : ℕ) (l : Links) (h : Stands o p l) where
         r-above = hr;
         s-above = hs;
         e-above = he;
-        counted = h .counted;
         holds-r = h .holds-r;
         holds-s = h .holds-s;
         holds-p = h .holds-p;
@@ -127,19 +127,14 @@ module _ (o : Links) (p : ℕ) (l : Links) (h : Stands o p l) where
       frame-case in
       inl (lower-stands (l .r - 1) (l .s) (l .e) ok above (h .s-above) (h .e-above))
 
-  pub thrown : 0 < l .e → Sound (act throw l) → Stands o p (act throw l) ⊎ Ended o p throw l
+  pub thrown : 0 < l .e → Sound (act throw l) → Stands o p (act throw l) ⊎ Gone o p l throw
   thrown z ok =
       ⊎-elim
       (λ (own : l .e ≡ suc (o .e)).
       let back : thrownS l ≡ o .s = ap (copyOfS (l .levels)) own ∙ h .holds-s in
       let r-back : thrownR l ≡ o .r = ap (λ (n : ℕ). copyOfR (l .frames) (suc n)) back ∙ h .holds-r in
-      let p-back : copyOfP (l .levels) (l .e) ≡ p - 1 = ap (copyOfP (l .levels)) own ∙ h .holds-p in
-      inr
-      (record {
-        restored = lower-restores (thrownR l) (thrownS l) (l .e - 1) r-back back (omega arith);
-        loses = by-throw;
-        same-p = λ is. omega (arith, h .counted);
-      }))
+      let p-back : copyOfP (l .levels) (l .e) ≡ p = ap (copyOfP (l .levels)) own ∙ h .holds-p in
+      inr (by-throw (lower-restores (thrownR l) (thrownS l) (l .e - 1) r-back back (omega arith)) (ap suc p-back)))
       (λ later.
       let below : thrownS l < l .s = last-below (copyOfS (l .levels)) (l .s) (l .e) (h .sound .subroutines-rise) z in
       let r-up : copyOfR (l .frames) (suc (o .s)) < thrownR l =

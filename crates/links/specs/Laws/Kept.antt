@@ -6,13 +6,14 @@ use Prim.Native.Nat.{ℕ, suc, _-_, _<_, _≤_}
 use native.Mathlib.Omega.{arith}
 use lib.Dec.{ltb, leb}
 use lib.ListN.{length, length-set}
+use Rattle.links.specs.Depths.{subroutinesDepth, exceptionsDepth, mostCopyOfP}
 use Rattle.links.specs.Actions.{Act, still, push, call, catch, exit, pop, throw, keep, reset, act, dropsFrame, called, lowered, eAfterDrop, thrownS}
 use Rattle.links.specs.Allowed.{Allowed}
 use Rattle.plain.specs.Choice.{pick, both}
 use Rattle.links.specs.Laws.Copies.{part-kept, part-below, part-stored}
-use Rattle.links.specs.Linked.{noFrame, noLevel, copyOfR, copyOfS, copyOfP}
+use Rattle.links.specs.Linked.{Shaped, noFrame, noLevel, copyOfR, copyOfS, copyOfP}
 use Rattle.links.specs.Laws.Rising.{last-below, under, raised, rest, cut, each-below, rest-within, same-rise, same-within, pushed-rise}
-use Rattle.links.specs.Laws.Sound.{Shaped, Sound, Rise, Within}
+use Rattle.links.specs.Laws.Sound.{Sound, Rise, Within}
 use Rattle.links.specs.Laws.Tests.{drops, stays}
 use Rattle.links.specs.declared.Frame.{Frame}
 use Rattle.links.specs.declared.Level.{Level}
@@ -78,11 +79,11 @@ left-sound r l h z is =
     record {
       r-within = omega arith;
       s-within = omega arith;
-      e-within = lower-le (l .e) 8 test (h .e-within);
+      e-within = lower-le (l .e) exceptionsDepth test (h .e-within);
       returns-rise =
           subst (λ (k : ℕ). Rise (copyOfR (l .frames)) k (l .s - 1)) (sym is) (rest (copyOfR (l .frames)) (l .r) (l .s) (h .returns-rise) z);
       subroutines-rise = rise;
-      depths-within = lower-within (copyOfP (l .levels)) 63 (l .e) test (h .depths-within);
+      depths-within = lower-within (copyOfP (l .levels)) mostCopyOfP (l .e) test (h .depths-within);
     }
 
 popped-sound : (l : Links) → Sound l → 0 < l .r → (b : Bool) → dropsFrame l ≡ b
@@ -114,10 +115,10 @@ thrown-sound l h z =
       e-within = omega arith;
       returns-rise = cut (copyOfR (l .frames)) (l .r) (l .s) t (h .returns-rise) t-below;
       subroutines-rise = rest (copyOfS (l .levels)) (l .s) (l .e) (h .subroutines-rise) z;
-      depths-within = rest-within (copyOfP (l .levels)) 63 (l .e) (h .depths-within);
+      depths-within = rest-within (copyOfP (l .levels)) mostCopyOfP (l .e) (h .depths-within);
     }
 
-called-rise : (address : ℕ) (l : Links) → Shaped l → Sound l → l .s < 32
+called-rise : (address : ℕ) (l : Links) → Shaped l → Sound l → l .s < subroutinesDepth
     → Rise (copyOfR (called address l .frames)) (suc (l .r)) (suc (l .s))
 called-rise address l f h below =
     let room : suc (l .s) < length (l .frames) = omega (arith, f .frames-long) in
@@ -159,9 +160,9 @@ kept (catch address p) l f h ok =
           (part-stored noLevel (λ (x : Level). x .s) (l .levels) (suc (l .e)) _ room)
           (λ i z le. part-below noLevel (λ (x : Level). x .s) (l .levels) (suc (l .e)) _ i (omega arith)) (h .subroutines-rise);
       depths-within =
-          let stored : copyOfP new (suc (l .e)) ≡ p - 1 = part-stored noLevel (λ (x : Level). x .p) (l .levels) (suc (l .e)) _ room in (
-            omega (arith, ok .4),
-            same-within (copyOfP (l .levels)) (copyOfP new) 63 (l .e)
+          let stored : copyOfP new (suc (l .e)) ≡ p = part-stored noLevel (λ (x : Level). x .p) (l .levels) (suc (l .e)) _ room in (
+            omega (arith, ok .3),
+            same-within (copyOfP (l .levels)) (copyOfP new) mostCopyOfP (l .e)
                 (λ i z le. part-below noLevel (λ (x : Level). x .p) (l .levels) (suc (l .e)) _ i (omega arith)) (h .depths-within),
           );
     }
@@ -182,7 +183,7 @@ kept (keep locals cells) l f h ok =
           same-rise (copyOfS (l .levels)) (copyOfS levels) (l .s) (l .e)
           (λ i z le. part-kept noLevel (λ (x : Level). x .s) (l .levels) (l .e) _ refl i) (h .subroutines-rise);
       depths-within =
-          same-within (copyOfP (l .levels)) (copyOfP levels) 63 (l .e)
+          same-within (copyOfP (l .levels)) (copyOfP levels) mostCopyOfP (l .e)
           (λ i z le. part-kept noLevel (λ (x : Level). x .p) (l .levels) (l .e) _ refl i) (h .depths-within);
     }
 kept reset l f h ok =

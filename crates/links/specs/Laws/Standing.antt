@@ -10,9 +10,9 @@ use Rattle.links.specs.Allowed.{Allowed}
 use Rattle.links.specs.Laws.Copies.{part-kept, part-below, part-stored}
 use Rattle.links.specs.Laws.Dropped.{left, popped, thrown}
 use Rattle.links.specs.Laws.Kept.{kept, shaped-kept}
-use Rattle.links.specs.Linked.{noFrame, noLevel, copyOfR}
-use Rattle.links.specs.Restored.{Stands, Ended, by-exit, by-pop, NotReset}
-use Rattle.links.specs.Laws.Sound.{Shaped, Sound}
+use Rattle.links.specs.Linked.{Shaped, noFrame, noLevel, copyOfR}
+use Rattle.links.specs.Laws.Stands.{Stands, Gone, by-reset, by-exit, by-pop}
+use Rattle.links.specs.Laws.Sound.{Sound}
 use Rattle.links.specs.declared.Frame.{Frame}
 use Rattle.links.specs.declared.Level.{Level}
 use Rattle.links.specs.declared.Links.{Links}
@@ -28,7 +28,6 @@ caught o address p f h ok =
       r-above = omega arith;
       s-above = omega arith;
       e-above = omega arith;
-      counted = ok .3;
       holds-r = part-stored noFrame (λ (x : Frame). x .r) (o .frames) (suc (o .s)) _ room;
       holds-s = part-stored noLevel (λ (x : Level). x .s) (o .levels) (suc (o .e)) _ more;
       holds-p = part-stored noLevel (λ (x : Level). x .p) (o .levels) (suc (o .e)) _ more;
@@ -38,10 +37,10 @@ caught o address p f h ok =
     }
 
 module _ (o : Links) (p : ℕ) (l : Links) (h : Stands o p l) where
-  -- after one more action that is not refused and no reset, it stands still or it has ended
-  pub next : (a : Act) → Allowed a l → NotReset a → Stands o p (act a l) ⊎ Ended o p a l
-  next still ok not-reset = inl h
-  next (push x) ok not-reset =
+  -- after one more action that is not refused it stands still, or it is gone
+  pub next : (a : Act) → Allowed a l → Stands o p (act a l) ⊎ Gone o p l a
+  next still ok = inl h
+  next (push x) ok =
       inl
       (record {
         shaped = shaped-kept (push x) l (h .shaped);
@@ -49,7 +48,6 @@ module _ (o : Links) (p : ℕ) (l : Links) (h : Stands o p l) where
         r-above = omega (arith, h .r-above);
         s-above = h .s-above;
         e-above = h .e-above;
-        counted = h .counted;
         holds-r = h .holds-r;
         holds-s = h .holds-s;
         holds-p = h .holds-p;
@@ -57,7 +55,7 @@ module _ (o : Links) (p : ℕ) (l : Links) (h : Stands o p l) where
         same-frames = h .same-frames;
         same-levels = h .same-levels;
       })
-  next (call address) ok not-reset =
+  next (call address) ok =
       inl
       (record {
         shaped = shaped-kept (call address) l (h .shaped);
@@ -65,7 +63,6 @@ module _ (o : Links) (p : ℕ) (l : Links) (h : Stands o p l) where
         r-above = omega (arith, h .r-above);
         s-above = omega (arith, h .s-above);
         e-above = h .e-above;
-        counted = h .counted;
         holds-r = part-below noFrame (λ (x : Frame). x .r) (l .frames) (suc (l .s)) _ (suc (o .s)) (omega (arith, h .s-above)) ∙ h .holds-r;
         holds-s = h .holds-s;
         holds-p = h .holds-p;
@@ -73,7 +70,7 @@ module _ (o : Links) (p : ℕ) (l : Links) (h : Stands o p l) where
         same-frames = take-set-le (suc (o .s)) (l .frames) (suc (l .s)) _ (omega (arith, h .s-above)) ∙ h .same-frames;
         same-levels = h .same-levels;
       })
-  next (catch address p₁) ok not-reset =
+  next (catch address p₁) ok =
       let lower : suc (o .e) < suc (l .e) = omega (arith, h .e-above) in
       inl
       (record {
@@ -82,7 +79,6 @@ module _ (o : Links) (p : ℕ) (l : Links) (h : Stands o p l) where
         r-above = omega (arith, h .r-above);
         s-above = omega (arith, h .s-above);
         e-above = omega (arith, h .e-above);
-        counted = h .counted;
         holds-r = part-below noFrame (λ (x : Frame). x .r) (l .frames) (suc (l .s)) _ (suc (o .s)) (omega (arith, h .s-above)) ∙ h .holds-r;
         holds-s = part-below noLevel (λ (x : Level). x .s) (l .levels) (suc (l .e)) _ (suc (o .e)) lower ∙ h .holds-s;
         holds-p = part-below noLevel (λ (x : Level). x .p) (l .levels) (suc (l .e)) _ (suc (o .e)) lower ∙ h .holds-p;
@@ -90,14 +86,14 @@ module _ (o : Links) (p : ℕ) (l : Links) (h : Stands o p l) where
         same-frames = take-set-le (suc (o .s)) (l .frames) (suc (l .s)) _ (omega (arith, h .s-above)) ∙ h .same-frames;
         same-levels = take-set-le (suc (o .e)) (l .levels) (suc (l .e)) _ (omega arith) ∙ h .same-levels;
       })
-  next exit ok not-reset =
-      ⊎-elim inl (λ back. inr (record { restored = back; loses = by-exit; same-p = λ is. absurd is }))
+  next exit ok =
+      ⊎-elim inl (λ back. inr (by-exit back))
       (left o p l h (copyOfR (l .frames) (l .s)) refl (kept exit l (h .shaped) (h .sound) ok))
-  next pop ok not-reset =
-      ⊎-elim inl (λ back. inr (record { restored = back; loses = by-pop; same-p = λ is. absurd is }))
+  next pop ok =
+      ⊎-elim inl (λ back. inr (by-pop back))
       (popped o p l h ok (dropsFrame l) refl (kept pop l (h .shaped) (h .sound) ok))
-  next throw ok not-reset = thrown o p l h ok (kept throw l (h .shaped) (h .sound) ok)
-  next (keep locals cells) ok not-reset =
+  next throw ok = thrown o p l h ok (kept throw l (h .shaped) (h .sound) ok)
+  next (keep locals cells) ok =
       inl
       (record {
         shaped = shaped-kept (keep locals cells) l (h .shaped);
@@ -105,7 +101,6 @@ module _ (o : Links) (p : ℕ) (l : Links) (h : Stands o p l) where
         r-above = h .r-above;
         s-above = h .s-above;
         e-above = h .e-above;
-        counted = h .counted;
         holds-r = part-kept noFrame (λ (x : Frame). x .r) (l .frames) (l .s) _ refl (suc (o .s)) ∙ h .holds-r;
         holds-s = part-kept noLevel (λ (x : Level). x .s) (l .levels) (l .e) _ refl (suc (o .e)) ∙ h .holds-s;
         holds-p = part-kept noLevel (λ (x : Level). x .p) (l .levels) (l .e) _ refl (suc (o .e)) ∙ h .holds-p;
@@ -113,4 +108,4 @@ module _ (o : Links) (p : ℕ) (l : Links) (h : Stands o p l) where
         same-frames = take-set-le (suc (o .s)) (l .frames) (l .s) _ (h .s-above) ∙ h .same-frames;
         same-levels = take-set-le (suc (o .e)) (l .levels) (l .e) _ (h .e-above) ∙ h .same-levels;
       })
-  next reset ok not-reset = absurd not-reset
+  next reset ok = inr by-reset

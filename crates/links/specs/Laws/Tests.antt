@@ -1,18 +1,11 @@
 -- The test by which a level is dropped: there is one, and a number is not greater than its copy.
-use mathlib.Core.Bool.{Bool, true, false}
-use mathlib.Core.Path.{_≡_, refl, subst}
+use mathlib.Core.Bool.{true, false}
+use mathlib.Core.Path.{_≡_}
 use Prim.Native.Nat.{ℕ, _<_, _≤_}
 use borrow.Author.Tests.{ltb-true, leb-true, leb-false, lt-ltb}
-use lib.Dec.{T, ltb, leb}
-use Rattle.plain.specs.Choice.{pick, both}
-
-both-true : (a b : Bool) → both a b ≡ true → (a ≡ true) × (b ≡ true)
-both-true true b e = (refl, e)
-both-true false b e = absurd (subst (λ (x : Bool). T (pick x false true)) e tt)
-
-both-false : (a b : Bool) → both a b ≡ false → a ≡ true → b ≡ false
-both-false true b e t = e
-both-false false b e t = absurd (subst (λ (x : Bool). T (pick x false true)) t tt)
+use lib.Dec.{ltb, leb}
+use Rattle.plain.specs.Choice.{both}
+use Rattle.plain.specs.Laws.Choice.{both-true, both-false}
 
 module _ (n m copy : ℕ) where
   pub drops : both (ltb 0 n) (leb m copy) ≡ true → (0 < n) × (m ≤ copy)

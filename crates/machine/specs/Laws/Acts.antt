@@ -4,8 +4,8 @@ use mathlib.Core.List.{List}
 use Prim.Native.Nat.{ℕ}
 use Rattle.links.specs.Actions.{act}
 use Rattle.links.specs.Allowed.{Allowed}
-use Rattle.machine.specs.Step.{done, stepOf}
-use Rattle.machine.specs.Laws.Passed.{step-done, rowAt}
+use Rattle.machine.specs.Step.{done, rowAt, stepOf}
+use Rattle.machine.specs.Laws.Passed.{step-done}
 use Rattle.machine.specs.Laws.Kept.{Formed, allowed-at}
 use Rattle.machine.specs.declared.Machine.{Machine}
 

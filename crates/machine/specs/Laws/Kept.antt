@@ -7,47 +7,42 @@ use borrow.Author.Tests.{le-leb, ltb-false}
 use lib.Dec.{T, leb, leb→le}
 use lib.ListN.{length}
 use lib.Seq.{length-sets}
+use Rattle.plain.specs.Laws.Choice.{both-parts}
+use Rattle.links.specs.Depths.{cellsDepth}
 use Rattle.links.specs.Allowed.{Allowed}
 use Rattle.links.specs.Linked.{linked}
-use Rattle.links.specs.Laws.Sound.{Shaped, Sound, sound, linked-true}
+use Rattle.links.specs.Laws.Sound.{Sound, sound, linked-true}
 use Rattle.links.specs.Laws.Kept.{kept, shaped-kept}
-use Rattle.machine.specs.State.{wellFormed}
+use Rattle.machine.specs.State.{wellFormed, Whole}
 use Rattle.machine.specs.Codes.{entryAt}
 use Rattle.machine.specs.Fetch.{instructionAt}
-use Rattle.machine.specs.Step.{done, stepOf, put}
-use Rattle.machine.specs.Laws.Tables.{both-parts}
-use Rattle.machine.specs.Laws.Passed.{Done, step-done, rowAt}
-use Rattle.machine.specs.Laws.Marks.{mark}
+use Rattle.machine.specs.Step.{done, stepOf, put, rowAt, testsAt}
+use Rattle.machine.specs.Laws.Passed.{Done, step-done, passed-at}
 use Rattle.machine.specs.Laws.Told.{Fair, fair}
 use Rattle.machine.specs.Laws.Granted.{granted}
 use Rattle.machine.specs.declared.Machine.{Machine}
 
--- the lists are as long as the arrays that they stand for
-pub record Whole (m : Machine) : Type 0 where
-  pub cells-long : length (m .cells) ≡ 64
-  pub shaped : Shaped (m .links)
-
 -- well formed, part by part
 pub record Formed (m : Machine) : Type 0 where
-  pub p-within : m .p ≤ 64
+  pub p-within : m .p ≤ cellsDepth
   pub flag-within : m .flag ≤ 1
   pub sound : Sound (m .links)
 
 pub formed : (m : Machine) → wellFormed m ≡ true → Formed m
 unfolding wellFormed
 formed m e =
-    let p = both-parts (leb (m .p) 64) _ (subst⁻¹ T e tt) in
+    let p = both-parts (leb (m .p) cellsDepth) _ (subst⁻¹ T e tt) in
     let f = both-parts (leb (m .flag) 1) (linked (m .links)) (p .1) in
     record
-    { p-within = leb→le (m .p) 64 (p .0); flag-within = leb→le (m .flag) 1 (f .0); sound = sound (m .links) (f .1) }
+    { p-within = leb→le (m .p) cellsDepth (p .0); flag-within = leb→le (m .flag) 1 (f .0); sound = sound (m .links) (f .1) }
 
 pub formed-true : (m : Machine) → Formed m → wellFormed m ≡ true
 unfolding wellFormed
-formed-true m h = rw (le-leb (m .p) 64 (h .p-within), le-leb (m .flag) 1 (h .flag-within)) (linked-true (m .links) (h .sound))
+formed-true m h = rw (le-leb (m .p) cellsDepth (h .p-within), le-leb (m .flag) 1 (h .flag-within)) (linked-true (m .links) (h .sound))
 
 -- the row at the program counter is fair
 pub fair-at : (mem : List ℕ) (m : Machine) → Formed m →
-    Fair mem m (mark (entryAt (instructionAt mem (m .counter) .code) .op)) (rowAt mem m)
+    Fair (instructionAt mem (m .counter)) m mem (entryAt (instructionAt mem (m .counter) .code) .op) (rowAt mem m)
 fair-at mem m h =
     fair (instructionAt mem (m .counter)) mem m (h .flag-within) (entryAt (instructionAt mem (m .counter) .code) .op)
 
@@ -77,7 +72,7 @@ put-good mem m mem′ m′ k w h d =
           };
       formed =
           record {
-            p-within = ltb-false 64 (row .keeps + length (row .puts)) (d .passed .1 .1 .1 .1 .1 .1 .0);
+            p-within = ltb-false cellsDepth (row .keeps + length (row .puts)) (passed-at 8 (testsAt mem m) (d .passed));
             flag-within = f .flag-within;
             sound = kept (row .link) (m .links) (w .shaped) (h .sound) (allowed-at mem m mem′ m′ k h d);
           };

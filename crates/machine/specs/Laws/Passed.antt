@@ -4,12 +4,11 @@ use mathlib.Core.Bool.{Bool, true, false}
 use mathlib.Core.List.{List, [], _∷_}
 use Prim.Native.Nat.{ℕ}
 use native.Mathlib.Omega.{arith}
+use lib.Dec.{eqb}
 use Rattle.plain.specs.Choice.{pick}
-use Rattle.machine.specs.Codes.{entryAt}
-use Rattle.machine.specs.Fetch.{Instruction, instructionAt}
-use Rattle.machine.specs.Rows.{Row, rowOf}
-use Rattle.machine.specs.Checks.{Test, tests}
-use Rattle.machine.specs.Step.{Stepped, refused, done, put, costOf, unless, carry, carried, stepOf}
+use Rattle.machine.specs.Fetch.{instructionAt}
+use Rattle.machine.specs.Checks.{Test, holdsAt}
+use Rattle.machine.specs.Step.{Stepped, refused, done, put, costOf, unless, carried, rowAt, testsAt, stepOf}
 use Rattle.machine.specs.declared.Machine.{Machine}
 
 -- no test of the list holds
@@ -31,13 +30,17 @@ unless-done (t ∷ ts) result mem m k e = go (t .holds) refl e (unless-done ts r
     go true h e later = let z : _≡_ {A = ℕ} 0 1 = cc in absurd (omega arith)
     go false h e later = record { passed = (h, later e .passed); same = later e .same }
 
--- the row of the instruction at the program counter
-abbrev pub rowAt : List ℕ → Machine → Row
-rowAt mem m =
-    rowOf (instructionAt mem (m .counter)) mem m (entryAt (instructionAt mem (m .counter) .code) .op)
+-- so does none by its number
+pub passed-at : (number : ℕ) (ts : List Test) → AllPass ts → holdsAt number ts ≡ false
+passed-at number [] h = refl
+passed-at number (t ∷ ts) h = go (passed-at number ts (h .1)) (eqb (t .number) number)
+  where
+    go : holdsAt number ts ≡ false → (b : Bool) → pick b (t .holds) (holdsAt number ts) ≡ false
+    go later true = h .0
+    go later false = later
 
 pub record Done (mem : List ℕ) (m : Machine) (mem′ : List ℕ) (m′ : Machine) (k : ℕ) : Type 0 where
-  pub passed : AllPass (tests (instructionAt mem (m .counter)) m (rowAt mem m))
+  pub passed : AllPass (testsAt mem m)
   pub memory : mem′ ≡ rowAt mem m .memory
   pub machine : m′ ≡ put (rowAt mem m) m
   pub cost : k ≡ costOf (instructionAt mem (m .counter)) m
@@ -48,5 +51,5 @@ unfolding stepOf carried
 step-done mem m mem′ m′ k e =
     let i = instructionAt mem (m .counter) in
     let u =
-    unless-done (tests i m (rowAt mem m)) (done (rowAt mem m .memory) (put (rowAt mem m) m) (costOf i m)) mem′ m′ k e in
+    unless-done (testsAt mem m) (done (rowAt mem m .memory) (put (rowAt mem m) m) (costOf i m)) mem′ m′ k e in
     record { passed = u .passed; memory = cc (u .same); machine = cc (u .same); cost = cc (u .same) }

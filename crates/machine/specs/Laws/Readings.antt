@@ -6,14 +6,14 @@ use Prim.Native.Nat.{ℕ, suc, _+_}
 use native.Mathlib.Omega.{arith}
 use borrow.Author.Tests.{ne-eqb}
 use Rattle.plain.specs.Choice.{pick}
+use Rattle.numbers.specs.Bytes.{byteAt}
 use Rattle.links.specs.Linked.{frameAt, levelAt, copyOfR, copyOfS, copyOfP}
 use Rattle.links.specs.Actions.{throw}
-use Rattle.machine.specs.Codes.{EXIT, THROW, entryAt, table}
-use Rattle.machine.specs.Memory.{byteAt}
+use Rattle.machine.specs.Codes.{THROW, LINK, entryAt, table}
 use Rattle.machine.specs.Fetch.{Instruction, instructionAt}
 use Rattle.machine.specs.Rows.{Row, rowOf, top, cells, throwRow}
-use Rattle.machine.specs.Step.{done, stepOf, put}
-use Rattle.machine.specs.Laws.Passed.{step-done, rowAt}
+use Rattle.machine.specs.Step.{done, stepOf, put, rowAt}
+use Rattle.machine.specs.Laws.Passed.{step-done}
 use Rattle.machine.specs.declared.Machine.{Machine}
 
 -- the row of a code that is known
@@ -41,7 +41,7 @@ pub record Thrown (m m′ : Machine) : Type 0 where
   pub r-copied : m′ .links .r ≡ copyOfR (m .links .frames) (suc (copyOfS (m .links .levels) (m .links .e)))
   pub p-copied : m′ .p ≡ suc (copyOfP (m .links .levels) (m .links .e))
 
-throw-row : (i : Instruction) (mem : List ℕ) (m : Machine) → (top m ≡ 0 → ⊥) → rowOf i mem m THROW ≡ throwRow i mem m
+throw-row : (i : Instruction) (mem : List ℕ) (m : Machine) → (top m ≡ 0 → ⊥) → rowOf i mem m (LINK THROW) ≡ throwRow i mem m
 unfolding rowOf
 throw-row i mem m other = ap (λ (b : Bool). pick b (cells i mem m []) (throwRow i mem m)) (ne-eqb (top m) 0 other)
 

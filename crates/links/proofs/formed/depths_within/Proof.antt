@@ -1,6 +1,7 @@
 -- What is left of the test equals the whole test at every turn; the levels left are the measure.
 use mathlib.Core.Path.{_≡_}
 use borrow.Author.Needs.{needs}
+use Rattle.links.specs.Depths.{exceptionsDepth, mostCopyOfP}
 use Rattle.links.specs.Linked.{copyOfP, within}
 use Rattle.links.proofs.Descent.{within-stops, within-goes, within-ends}
 use Prim.Native.Nat.{_≤_}
@@ -8,7 +9,7 @@ use Rattle.links.proofs.formed.depths_within.Statement.{statement}
 use Rattle.links.proofs.formed.depths_within.Tie as tie
 
 abbrev Inv-loop : tie.InvT-loop
-Inv-loop e levels n₀ n = (n ≤ 8) × (within (copyOfP levels) 63 n ≡ within (copyOfP levels) 63 e)
+Inv-loop e levels n₀ n = (n ≤ exceptionsDepth) × (within (copyOfP levels) mostCopyOfP n ≡ within (copyOfP levels) mostCopyOfP e)
 
 abbrev μ-loop : tie.MeasureT-loop
 μ-loop e levels n₀ n = n
@@ -26,7 +27,7 @@ returns : tie.Need-returns Inv-loop μ-loop
 returns c =
     within-stops
     (copyOfP (c .before .before .before .before .before .args .t1))
-    63
+    mostCopyOfP
     (c .before .before .before .before .loop .n)
     (search needs)
     (c .if1 .taken)
@@ -43,7 +44,7 @@ loop-again c = (
   search needs,
   within-goes
       (copyOfP (c .before .before .before .before .before .args .t1))
-      63
+      mostCopyOfP
       (c .before .before .before .before .loop .n)
       (search needs)
       (c .if1 .left)
@@ -51,7 +52,7 @@ loop-again c = (
 )
 
 returns-2 : tie.Need-returns-2 Inv-loop μ-loop
-returns-2 c = within-ends (copyOfP (c .before .before .args .t1)) 63 (c .before .loop .n) (search needs) (c .before .loop .inv .1)
+returns-2 c = within-ends (copyOfP (c .before .before .args .t1)) mostCopyOfP (c .before .loop .n) (search needs) (c .before .loop .inv .1)
 
 pub depths-within-spec : {M : Type 1} → statement M
 depths-within-spec =

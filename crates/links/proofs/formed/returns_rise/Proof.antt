@@ -1,6 +1,7 @@
 -- What is left of the test equals the whole test at every turn; the levels left are the measure.
 use mathlib.Core.Path.{_≡_}
 use borrow.Author.Needs.{needs}
+use Rattle.links.specs.Depths.{subroutinesDepth}
 use Rattle.links.specs.Linked.{copyOfR, rises}
 use Rattle.links.proofs.Descent.{rises-stops, rises-goes, rises-ends}
 use Prim.Native.Nat.{_≤_}
@@ -8,7 +9,7 @@ use Rattle.links.proofs.formed.returns_rise.Statement.{statement}
 use Rattle.links.proofs.formed.returns_rise.Tie as tie
 
 abbrev Inv-loop : tie.InvT-loop
-Inv-loop r s frames top₀ n₀ top n = (n ≤ 32) × (rises (copyOfR frames) top n ≡ rises (copyOfR frames) r s)
+Inv-loop r s frames top₀ n₀ top n = (n ≤ subroutinesDepth) × (rises (copyOfR frames) top n ≡ rises (copyOfR frames) r s)
 
 abbrev μ-loop : tie.MeasureT-loop
 μ-loop r s frames top₀ n₀ top n = n

@@ -1,6 +1,7 @@
 -- What is left of the test equals the whole test at every turn; the levels left are the measure.
 use mathlib.Core.Path.{_≡_}
 use borrow.Author.Needs.{needs}
+use Rattle.links.specs.Depths.{exceptionsDepth}
 use Rattle.links.specs.Linked.{copyOfS, rises}
 use Rattle.links.proofs.Descent.{rises-stops, rises-goes, rises-ends}
 use Prim.Native.Nat.{_≤_}
@@ -8,7 +9,7 @@ use Rattle.links.proofs.formed.subroutines_rise.Statement.{statement}
 use Rattle.links.proofs.formed.subroutines_rise.Tie as tie
 
 abbrev Inv-loop : tie.InvT-loop
-Inv-loop s e levels top₀ n₀ top n = (n ≤ 8) × (rises (copyOfS levels) top n ≡ rises (copyOfS levels) s e)
+Inv-loop s e levels top₀ n₀ top n = (n ≤ exceptionsDepth) × (rises (copyOfS levels) top n ≡ rises (copyOfS levels) s e)
 
 abbrev μ-loop : tie.MeasureT-loop
 μ-loop s e levels top₀ n₀ top n = n

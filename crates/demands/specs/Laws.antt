@@ -1,0 +1,18 @@
+-- what a run accepts, and what any history keeps of it
+pub mod Accepted
+-- every run is a history of completed instructions
+pub mod Course
+-- the first test that holds has the lowest number
+pub mod Lowest
+-- a refusal's number
+pub mod Refused
+-- a step that no test refuses is carried out
+pub mod Carried
+-- runs that start with counts
+pub mod Added
+-- restored links show the same cells
+pub mod Views
+-- while the exception level of a CATCH stands
+pub mod Stood
+-- histories by computation
+pub mod Walks

@@ -1,0 +1,65 @@
+-- A step that no test refuses is carried out; a CATCH at which none applies.
+use mathlib.Core.Logic.{inl, inr}
+use mathlib.Core.Path.{_≡_, refl, ap, _∙_, subst⁻¹}
+use mathlib.Core.Bool.{Bool, true, false}
+use mathlib.Core.List.{List, [], _∷_}
+use Prim.Native.Nat.{ℕ, _+_, _-_, _%_, _^_, _<_, _≤_}
+use native.Mathlib.Omega.{arith}
+use borrow.Author.Tests.{lt-ltb, le-ltb, lt-leb}
+use lib.Dec.{ltb}
+use Rattle.plain.specs.Choice.{pick}
+use Rattle.numbers.specs.Bytes.{byteAt}
+use Rattle.links.specs.Depths.{cellsDepth, returnsDepth, subroutinesDepth, exceptionsDepth}
+use Rattle.machine.specs.Limits.{memoryLength}
+use Rattle.machine.specs.Codes.{entryAt, table}
+use Rattle.machine.specs.Fetch.{Instruction, instruction, instructionAt}
+use Rattle.machine.specs.Rows.{rowOf}
+use Rattle.machine.specs.Checks.{Test}
+use Rattle.machine.specs.Step.{Stepped, refused, done, put, costOf, unless, carried, rowAt, testsAt, stepOf}
+use Rattle.machine.specs.Laws.Passed.{AllPass}
+use Rattle.machine.specs.declared.Machine.{Machine}
+use Rattle.demands.specs.Lowest.{Applies}
+
+all-pass : (ts : List Test) → ((k : ℕ) → Applies k ts → ⊥) → AllPass ts
+all-pass [] none = tt
+all-pass (t ∷ ts) none = (go (t .holds) refl, all-pass ts (λ k a. none k (inr a)))
+  where
+    go : (b : Bool) → t .holds ≡ b → t .holds ≡ false
+    go true e = absurd (none (t .number) (inl (refl, e)))
+    go false e = e
+
+unless-passed : (ts : List Test) (result : Stepped) → AllPass ts → unless ts result ≡ result
+unless-passed [] result h = refl
+unless-passed (t ∷ ts) result h =
+    ap (λ (b : Bool). pick b (refused (t .number)) (unless ts result)) (h .0) ∙ unless-passed ts result (h .1)
+
+pub unrefused : (mem : List ℕ) (m : Machine) → ((k : ℕ) → Applies k (testsAt mem m) → ⊥) →
+    stepOf mem m ≡ done (rowAt mem m .memory) (put (rowAt mem m) m) (costOf (instructionAt mem (m .counter)) m)
+unfolding stepOf carried
+unrefused mem m none = unless-passed (testsAt mem m) _ (all-pass (testsAt mem m) none)
+
+-- CATCH, its byte inside memory
+abbrev catchAt : ℕ → Instruction
+catchAt a = record { code = 0x0B; operand = 0; next = (a + 1) % 2 ^ 32; outside = false }
+
+fetched : (mem : List ℕ) (a : ℕ) → byteAt mem a ≡ 0x0B → a < memoryLength → instructionAt mem a ≡ catchAt a
+unfolding instructionAt entryAt table
+fetched mem a is below =
+    ap (λ (code : ℕ). instruction code (entryAt code) mem a) is ∙
+    rw (lt-ltb a memoryLength below, le-ltb memoryLength (a + 1) (omega arith))
+
+-- it is carried out where there is an address to take and room on the three stacks
+pub catch-goes : (mem : List ℕ) (m : Machine) → byteAt mem (m .counter) ≡ 0x0B → m .counter < memoryLength →
+    1 ≤ m .p → m .p ≤ cellsDepth → m .links .r < returnsDepth → m .links .s < subroutinesDepth → m .links .e < exceptionsDepth →
+    stepOf mem m ≡ done mem (put (rowAt mem m) m) 2
+unfolding stepOf carried rowOf entryAt table
+catch-goes mem m is below some p r s e =
+    subst⁻¹ (λ (i : Instruction). carried i mem m ≡ done mem (put (rowOf i mem m (entryAt (i .code) .op)) m) 2)
+    (fetched mem (m .counter) is below)
+    (rw (
+      le-ltb (m .p) 1 some,
+      le-ltb cellsDepth (m .p - 1 + 0) (omega arith),
+      lt-leb returnsDepth (m .links .r) r,
+      lt-leb subroutinesDepth (m .links .s) s,
+      lt-leb exceptionsDepth (m .links .e) e,
+    ))

@@ -1,0 +1,20 @@
+-- demand 1: every run ends with an answer of the list, and whatever is refused has altered nothing
+pub mod One
+-- demand 2: a run is its instructions one after another, counted as they should be
+pub mod Two
+-- demand 3: after a CATCH the machine comes back
+pub mod Three
+-- demands 1 and 2 said of images
+pub mod Images
+-- a state that a run hands back is taken by the next
+pub mod Handed
+-- any number of runs is one history
+pub mod Sessions
+-- a CATCH that nothing refuses is carried out
+pub mod Carried
+-- demand 3 on three starred cases
+pub mod Cases
+-- demand 3 over two runs with the host between
+pub mod Worked
+-- no second answer
+pub mod Only

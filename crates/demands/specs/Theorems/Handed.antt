@@ -1,0 +1,30 @@
+-- A state that a run hands back, with any answer but 2, is never refused by the next run.
+use mathlib.Core.Path.{_≡_, _∙_}
+use mathlib.Core.Bool.{true}
+use mathlib.Core.List.{List}
+use Prim.Native.Nat.{ℕ, _≤_}
+use Rattle.machine.specs.Limits.{mostBudget}
+use Rattle.machine.specs.State.{Whole}
+use Rattle.machine.specs.Run.{runOf, acceptable}
+use Rattle.machine.specs.declared.Machine.{Machine}
+use Rattle.demands.specs.Laws.Accepted.{taken, accept, history-kept, same-length}
+use Rattle.demands.specs.Theorems.One.{one}
+
+-- what a run hands back is whole, and the next run takes it, whatever its budget within the limit
+pub run-kept : (mem : List ℕ) (m : Machine) (budget : ℕ) → Whole m → (runOf mem m budget .ran .answer ≡ 2 → ⊥) →
+    Whole (runOf mem m budget .ran .machine)
+run-kept mem m budget whole other =
+    let b = one mem m budget .as-before other in
+    history-kept (b .1 .history) whole (taken mem m budget (b .0) .formed) .0
+
+pub taken-again : (mem : List ℕ) (m : Machine) (budget again : ℕ) → Whole m → (runOf mem m budget .ran .answer ≡ 2 → ⊥) →
+    again ≤ mostBudget → acceptable (runOf mem m budget .memory) (runOf mem m budget .ran .machine) again ≡ true
+taken-again mem m budget again whole other within =
+    let b = one mem m budget .as-before other in
+    let t = taken mem m budget (b .0) in
+    accept (runOf mem m budget .memory) (runOf mem m budget .ran .machine) again
+    (record {
+      long = same-length (b .1 .history) (b .1 .unbroken) whole (t .formed) ∙ t .long;
+      budget-within = within;
+      formed = history-kept (b .1 .history) whole (t .formed) .1;
+    })

@@ -1,0 +1,69 @@
+-- Demand 1: every run ends with an answer of the list, and whatever is refused has altered nothing.
+use mathlib.Core.Path.{_≡_, refl}
+use mathlib.Core.Bool.{Bool, true, false}
+use mathlib.Core.List.{List}
+use Prim.Native.Nat.{ℕ, _≤_}
+use native.Mathlib.Omega.{arith}
+use borrow.Author.Tests.{eqb-true}
+use lib.Dec.{T, leb, eqb, leb→le}
+use Rattle.plain.specs.Choice.{pick, both}
+use Rattle.machine.specs.Run.{After, ended, runFrom, runOf, acceptable}
+use Rattle.plain.specs.Laws.Choice.{both-parts}
+use Rattle.machine.specs.declared.Machine.{Machine}
+use Rattle.demands.specs.History.{world, stepsIn}
+use Rattle.demands.specs.Course.{Course, Reason, spent, stopped}
+use Rattle.demands.specs.Laws.Course.{course}
+use Rattle.demands.specs.Laws.Refused.{listed, refused-listed}
+
+-- what a run of any memory, machine and budget leaves
+pub record One (mem : List ℕ) (m : Machine) (budget : ℕ) (a : After) : Type 0 where
+  -- it ends, and with a number of the list: no run hangs, and none invents an answer
+  pub answered : a .ran .answer ≤ 13
+  -- it counts no more steps than its budget
+  pub within-budget : a .ran .steps .0 ≤ budget
+  -- answer 2 is for input that is not acceptable, with zero steps and cycles and everything as it was
+  pub untouched : a .ran .answer ≡ 2 → (acceptable mem m budget ≡ false) × (a ≡ ended 2 mem m 0 0)
+  -- any other answer comes after completed instructions alone. Memory, machine and counters are as they left them: the budget is
+  -- spent, or the instruction that the counter is on is refused with this answer and has altered nothing
+  pub as-before : (a .ran .answer ≡ 2 → ⊥) → (acceptable mem m budget ≡ true) × Course budget (world mem m) 0 0 a
+
+not-two : (k : ℕ) → T (listed k) → (k ≤ 13) × (k ≡ 2 → ⊥)
+not-two k t = go (eqb k 0) refl t
+  where
+    go : (b : Bool) → eqb k 0 ≡ b → T (pick b true (both (leb 3 k) (leb k 13))) → (k ≤ 13) × (k ≡ 2 → ⊥)
+    go true z t = let e : k ≡ 0 = eqb-true k 0 z in (omega arith, λ (is : k ≡ 2). omega arith)
+    go false z t =
+        let p = both-parts (leb 3 k) (leb k 13) t in
+        let low : 3 ≤ k = leb→le 3 k (p .0) in
+        (leb→le k 13 (p .1), λ (is : k ≡ 2). omega arith)
+
+reason-answer : (budget n : ℕ) (a : After) → Reason budget n a → (a .ran .answer ≤ 13) × (a .ran .answer ≡ 2 → ⊥)
+reason-answer budget n a (spent e is) = (omega arith, λ (two : a .ran .answer ≡ 2). omega arith)
+reason-answer budget n a (stopped e below) = not-two (a .ran .answer) (refused-listed (a .memory) (a .ran .machine) (a .ran .answer) e)
+
+reason-within : (budget n : ℕ) (a : After) → Reason budget n a → n ≤ budget
+reason-within budget n a (spent e is) = omega arith
+reason-within budget n a (stopped e below) = omega arith
+
+pub one : (mem : List ℕ) (m : Machine) (budget : ℕ) → One mem m budget (runOf mem m budget)
+unfolding runOf
+one mem m budget = go (acceptable mem m budget) refl
+  where
+    go : (b : Bool) → acceptable mem m budget ≡ b →
+        One mem m budget (elim b as (λ x. After) [ true ↦ runFrom budget mem m 0 0 | false ↦ ended 2 mem m 0 0 ])
+    go true e =
+        let c = course budget mem m 0 0 in
+        let answer = reason-answer budget (stepsIn (c .history)) _ (c .reason) in
+        record {
+          answered = answer .0;
+          within-budget = omega (arith, c .steps, reason-within budget (stepsIn (c .history)) _ (c .reason));
+          untouched = λ two. absurd (answer .1 two);
+          as-before = λ other. (e, c);
+        }
+    go false e =
+        record {
+          answered = omega arith;
+          within-budget = omega arith;
+          untouched = λ two. (e, refl);
+          as-before = λ other. absurd (other refl);
+        }

@@ -1,0 +1,39 @@
+-- Demand 3: whatever a caught word does, when its CATCH's exception level is gone the machine is back where it was before the CATCH.
+-- However deep the calls and however many the inner CATCHes, over any number of runs, with any memory from the host between them.
+use mathlib.Core.Logic.{_⊎_, ⊎-elim}
+use mathlib.Core.Path.{_≡_, ap}
+use Prim.Native.Nat.{ℕ, _<_, _≤_}
+use native.Mathlib.Omega.{arith}
+use Rattle.machine.specs.Step.{done, stepOf}
+use Rattle.demands.specs.History.{World, codeAt, pointerE, Moment, Resets, History, here, then, Above, Accepted}
+use Rattle.demands.specs.Back.{Back}
+use Rattle.demands.specs.Laws.Accepted.{taken, history-kept}
+use Rattle.demands.specs.Laws.Stood.{Stood, catch-stood, moment-next, reset-down}
+
+first-above : (n : ℕ) {w v : World} (h : History w v) → Above n h → n < pointerE w
+first-above n here a = a
+first-above n (then moment rest) a = a .0
+
+-- what the CATCH pushed stands as long as E is above the old E; so no RESETSP is among those moments
+stood-through : (o : World) {w v : World} → Stood o w → (h : History w v) → Above (pointerE o) h → Stood o v
+stood-through o s here above = s
+stood-through o {w} s (then {u = x} moment rest) above =
+    let up = first-above (pointerE o) rest (above .1) in
+    stood-through o
+    (⊎-elim (λ stood. stood)
+    (⊎-elim (λ (resets : Resets moment). absurd (omega (arith, reset-down o w x s moment resets, up)))
+    (λ (back : Back o w x). absurd (omega (arith, back .restored .same-e, up))))
+    (moment-next o w x s moment)) rest (above .1)
+
+-- From any state a that a run accepts, through any history, to any CATCH at o that is carried out and leads to w; from there through
+-- any history with E above the old E; then the moment that brings E down was a RESETSP, or the machine is back: by EXIT, THROW of
+-- non-zero or R>. This rules out a throw that keeps P too high, a level dropped too early or too late, an inner word that could
+-- reach below the CATCH, and a loss of the level by anything else.
+pub three : {a o w v z : World} → Accepted a → History a o → codeAt o ≡ 0x0B →
+    (k : ℕ) → stepOf (o .memory) (o .machine) ≡ done (w .memory) (w .machine) k →
+    (between : History w v) → Above (pointerE o) between → (last : Moment v z) → pointerE z ≤ pointerE o → Resets last ⊎ Back o v z
+three {a} {o} {w} {v} {z} start before catches k carried between above last down =
+    let h = history-kept before (start .whole) (taken (a .memory) (a .machine) (start .budget) (start .accepted) .formed) in
+    let caught = catch-stood o w k (h .0) (h .1) catches carried in
+    ⊎-elim (λ (stood : Stood o z). absurd (omega (arith, stood .stands .e-above))) (λ ends. ends)
+    (moment-next o v z (stood-through o caught between above) last)

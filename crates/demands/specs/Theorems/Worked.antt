@@ -1,0 +1,97 @@
+-- Demand 3 worked through: a call and an inner CATCH between, the host's change of memory, and the level lost by a THROW of the second run.
+use mathlib.Core.Logic.{⊎-elim}
+use mathlib.Core.Path.{_≡_, ap, _∙_}
+use lib.Dec.{T, leb, eqb, leb→le, eqb→eq}
+use native.Mathlib.Omega.{arith}
+use Rattle.plain.specs.Choice.{not}
+use Rattle.plain.specs.Zeros.{padded}
+use Rattle.plain.specs.Laws.Choice.{is-true}
+use Rattle.machine.specs.Limits.{memoryLength}
+use Rattle.machine.specs.State.{freshMachine, machineWith}
+use Rattle.machine.specs.Rows.{top}
+use Rattle.machine.specs.Run.{runOf, acceptable}
+use Rattle.demands.specs.History.{World, left, codeAt, pointerE, here, then}
+use Rattle.demands.specs.Back.{Way, by-exit, by-pop, by-throw, Back}
+use Rattle.demands.specs.Walk.{ahead, walk}
+use Rattle.demands.specs.Cases.{start, atCatch}
+use Rattle.demands.specs.Worked.{code, changed, paused, resumed, last, end}
+use Rattle.demands.specs.Theorems.Three.{three}
+use Rattle.demands.specs.Theorems.Cases.{start-accepted}
+use Rattle.demands.specs.Laws.Walks.{stepAt, isDone, ahead-step, ahead-moment, not-reset, goes, run-walks, calm, walked, host-between}
+
+record Holds : Type 0 where
+  taken : T (acceptable (padded memoryLength code) freshMachine 0)
+  first : T (isDone (stepAt (start code)))
+  catches : T (eqb (codeAt (atCatch code)) 0x0B)
+  carried : T (isDone (stepAt (atCatch code)))
+  one-calm : T (calm (pointerE (atCatch code)) 4 (ahead (atCatch code)))
+  two-calm : T (calm (pointerE (atCatch code)) 3 resumed)
+  ends : T (isDone (stepAt last))
+  down : T (leb (pointerE end) (pointerE (atCatch code)))
+  other : T (not (eqb (codeAt last) 0x0C))
+  thrown : T (eqb (codeAt last) 0x0D)
+  nine : T (eqb (top (last .machine)) 9)
+  one-taken : T (acceptable (padded memoryLength code) freshMachine 6)
+  two-taken : T (acceptable (padded memoryLength changed) (paused .machine) 4)
+  one-goes : T (goes 6 (start code))
+  two-goes : T (goes 4 resumed)
+
+holds : Holds
+unfolding padded goes calm walk freshMachine machineWith acceptable
+    Rattle.machine.specs.State.wellFormed Rattle.links.specs.Linked.linked
+    Rattle.links.specs.Fresh.freshLinks Rattle.links.specs.Fresh.freshFrame Rattle.links.specs.Fresh.freshLevel Rattle.links.specs.Actions.noLocals
+    Rattle.machine.specs.Step.stepOf Rattle.machine.specs.Step.carried Rattle.machine.specs.Fetch.instructionAt
+    Rattle.machine.specs.Rows.rowOf Rattle.machine.specs.Codes.entryAt Rattle.machine.specs.Codes.table
+holds =
+    record {
+      taken = tt;
+      first = tt;
+      catches = tt;
+      carried = tt;
+      one-calm = tt;
+      two-calm = tt;
+      ends = tt;
+      down = tt;
+      other = tt;
+      thrown = tt;
+      nine = tt;
+      one-taken = tt;
+      two-taken = tt;
+      one-goes = tt;
+      two-goes = tt;
+    }
+
+is-throw : codeAt last ≡ 0x0D
+is-throw = eqb→eq (codeAt last) 0x0D (holds .thrown)
+
+-- the machine is back at the outer CATCH
+pub worked : Back (atCatch code) last end
+unfolding walk
+worked =
+    let o = atCatch code in
+    let one = walked (pointerE o) 4 (ahead o) (holds .one-calm) in
+    let two = walked (pointerE o) 3 resumed (holds .two-calm) in
+    let both-runs = host-between (pointerE o) (padded memoryLength changed) (one .history) (one .above) two in
+    ⊎-elim (λ resets. absurd (not-reset last (holds .ends) (holds .other) resets)) (λ back. back)
+    (three (start-accepted code (holds .taken)) (then (ahead-moment (start code) (holds .first)) here)
+    (eqb→eq (codeAt o) 0x0B (holds .catches)) _ (ahead-step o (holds .carried)) (both-runs .history) (both-runs .above)
+    (ahead-moment last (holds .ends)) (leb→le _ (pointerE o) (holds .down)))
+
+thrown-on-top : (o v z : World) → Way o v z → codeAt v ≡ 0x0D → top (z .machine) ≡ top (v .machine)
+thrown-on-top o v z (by-exit is) e = absurd (omega (arith, is, e))
+thrown-on-top o v z (by-pop is) e = absurd (omega (arith, is, e))
+thrown-on-top o v z (by-throw is other p on-top) e = on-top
+
+-- with the code 9 on top, where the host changed it
+pub worked-code : top (end .machine) ≡ 9
+worked-code = thrown-on-top (atCatch code) last end (worked .way) is-throw ∙ eqb→eq (top (last .machine)) 9 (holds .nine)
+
+-- and it ends a second run of 4 steps, after a first of 6
+pub first-run : left (runOf (padded memoryLength code) freshMachine 6) ≡ paused
+first-run = run-walks 6 (start code) (is-true _ (holds .one-taken)) (holds .one-goes)
+
+pub second-run : left (runOf (padded memoryLength changed) (left (runOf (padded memoryLength code) freshMachine 6) .machine) 4) ≡ end
+unfolding walk
+second-run =
+    ap (λ (w : World). left (runOf (padded memoryLength changed) (w .machine) 4)) first-run ∙
+    run-walks 4 resumed (is-true _ (holds .two-taken)) (holds .two-goes)
