@@ -10,8 +10,8 @@ use lib.Seq.{drop-cons, set-at, take-at, append-snoc, length-take-le}
 use Rattle.numbers.specs.Bytes.{byteAt, numberAt}
 use Rattle.numbers.specs.Rows.{rowAt}
 use Rattle.numbers.specs.Laws.Rows.{length-row-at}
+use Rattle.plain.specs.Zeros.{padded}
 use Rattle.image.specs.Format.{budgetOf}
-use Rattle.image.specs.Loading.{padded}
 
 one-zero-more : (j : ℕ) (ys : List ℕ) → replicate j 0 ++ 0 ∷ ys ≡ replicate (j + 1) 0 ++ ys
 one-zero-more j ys =

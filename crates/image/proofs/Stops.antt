@@ -11,7 +11,8 @@ use Rattle.numbers.specs.Bytes.{numberAt}
 use Rattle.numbers.specs.Slices.{saysFound, readAt}
 use Rattle.numbers.specs.declared.Found.{Found}
 use Rattle.numbers.specs.declared.Found.the-variants.{Number, Outside}
-use Rattle.image.specs.Format.{limits, countWidth, budgetOf, mostBudget}
+use Rattle.machine.specs.Limits.{mostBudget}
+use Rattle.image.specs.Format.{limits, countWidth, budgetOf}
 use Rattle.image.specs.Judging.{partAt, valuesIn, endJudged, judgedOf}
 use Rattle.image.specs.Laws.Section.{whole-at, elements-inside}
 use Rattle.image.proofs.Reading.{was-inside, was-outside}

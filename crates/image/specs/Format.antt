@@ -1,21 +1,14 @@
 -- The image file: which bytes spell an image. Document 01, "Image file".
 use mathlib.Core.List.{List, [], _∷_, _++_}
-use Prim.Native.Nat.{ℕ, _≤_, _*_, _^_}
+use Prim.Native.Nat.{ℕ, _+_, _*_, _^_, _≤_}
 use lib.ListN.{length}
+use Rattle.links.specs.Depths.{cellsDepth}
+use Rattle.machine.specs.Limits.{memoryLength, mostBudget}
 use Rattle.numbers.specs.Bytes.{bytesOf}
 use Rattle.numbers.specs.Rows.{rowOf, Below}
 use Rattle.image.specs.declared.Section.{Section}
 use Rattle.image.specs.declared.Section.the-variants.{Memory, Cells, Budget}
 use Rattle.image.specs.declared.Limits.{Limits}
-
-abbrev pub mostMemory : ℕ
-mostMemory = 32768
-
-abbrev pub mostCells : ℕ
-mostCells = 64
-
-abbrev pub mostBudget : ℕ
-mostBudget = 1000000
 
 -- the budget of a file that gives none
 abbrev pub defaultBudget : ℕ
@@ -23,13 +16,20 @@ defaultBudget = 10000
 
 -- the sections in their order: how many bytes an element has, the fewest elements and the most
 abbrev pub limits : Section → Limits
-limits Memory = record { width = 1; fewest = 1; most = mostMemory }
-limits Cells = record { width = 4; fewest = 0; most = mostCells }
+limits Memory = record { width = 1; fewest = 1; most = memoryLength }
+limits Cells = record { width = 4; fewest = 0; most = cellsDepth }
 limits Budget = record { width = 4; fewest = 0; most = 1 }
 
 -- how many bytes a count has
 abbrev pub countWidth : ℕ
 countWidth = 4
+
+-- the most bytes that a section has, and the longest file
+abbrev pub longestSection : Section → ℕ
+longestSection s = countWidth + limits s .width * limits s .most
+
+abbrev pub longestFile : ℕ
+longestFile = longestSection Memory + longestSection Cells + longestSection Budget
 
 -- a section stands after its count
 unfoldable pub sectionOf : Section → List ℕ → List ℕ

@@ -7,10 +7,11 @@ use lib.Dec.{leb, ltb}
 use lib.ListN.{length}
 use Rattle.plain.specs.Choice.{pick, both}
 use Rattle.plain.specs.Answer.{Answer, refuses, gives}
+use Rattle.machine.specs.Limits.{mostBudget}
 use Rattle.numbers.specs.Bytes.{numberAt}
 use Rattle.numbers.specs.Rows.{rowAt}
 use Rattle.numbers.specs.Slices.{inside}
-use Rattle.image.specs.Format.{Image, Allowed, spelled, limits, countWidth, budgetOf, mostBudget}
+use Rattle.image.specs.Format.{Image, Allowed, spelled, limits, countWidth, budgetOf}
 use Rattle.image.specs.declared.Section.{Section}
 use Rattle.image.specs.declared.Section.the-variants as section
 use Rattle.image.specs.declared.Fault.{Fault}

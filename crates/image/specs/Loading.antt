@@ -1,13 +1,14 @@
 -- What the reader answers, and what it leaves in the lent memory.
-use mathlib.Core.List.{List, _++_}
+use mathlib.Core.List.{List}
 use mathlib.Core.Path.{_≡_}
-use Prim.Native.Nat.{ℕ, _-_}
-use lib.ListN.{length, replicate}
+use Prim.Native.Nat.{ℕ}
+use lib.ListN.{length}
 use Rattle.plain.specs.Answer.{Answer, refuses, gives}
-use Rattle.links.specs.Fresh.{freshLinks}
+use Rattle.plain.specs.Zeros.{padded}
+use Rattle.machine.specs.Limits.{memoryLength}
 use Rattle.machine.specs.declared.Machine.{Machine}
-use Rattle.machine.specs.State.{freshMachine}
-use Rattle.image.specs.Format.{Image, Allowed, budgetOf, spelled, mostMemory, mostCells}
+use Rattle.machine.specs.State.{freshMachine, machineWith}
+use Rattle.image.specs.Format.{Image, Allowed, budgetOf, spelled}
 use Rattle.image.specs.Judging.{badFile}
 use Rattle.image.specs.declared.Loaded.{Loaded}
 use Rattle.image.specs.declared.Verdict.{Verdict}
@@ -40,20 +41,13 @@ pub record Reading : Type 0 where
 unfoldable pub refusedWith : ℕ → Handed
 refusedWith answer = record { says = refuses answer; machine = freshMachine; budget = 0 }
 
--- numbers from the front, the rest up to the size zero
-unfoldable pub padded : ℕ → List ℕ → List ℕ
-padded size xs = xs ++ replicate (size - length xs) 0
-
--- a fresh machine but for its parameter stack
-unfoldable pub machineWith : List ℕ → Machine
-machineWith cells = record { cells = padded mostCells cells; p = length cells; links = freshLinks; counter = 0; flag = 0 }
-
+-- the machine and the budget that an image spells
 unfoldable pub loadedFrom : Image → Handed
 loadedFrom i = record { says = gives tt; machine = machineWith (i .cells); budget = budgetOf (i .budget) }
 
 -- `Read file before after handed`: a memory of another length is 2, a file that spells no image is 14, and both leave it as it was;
 -- a file that spells an image fills it
 pub data Read (file before : List ℕ) : List ℕ → Handed → Type 0 where
-  wrong-memory : (length before ≡ mostMemory → ⊥) → Read file before before (refusedWith otherMemory)
-  not-spelled : length before ≡ mostMemory → ((i : Image) → Allowed i → spelled i ≡ file → ⊥) → Read file before before (refusedWith badFile)
-  read : (i : Image) → length before ≡ mostMemory → Allowed i → spelled i ≡ file → Read file before (padded mostMemory (i .memory)) (loadedFrom i)
+  wrong-memory : (length before ≡ memoryLength → ⊥) → Read file before before (refusedWith otherMemory)
+  not-spelled : length before ≡ memoryLength → ((i : Image) → Allowed i → spelled i ≡ file → ⊥) → Read file before before (refusedWith badFile)
+  read : (i : Image) → length before ≡ memoryLength → Allowed i → spelled i ≡ file → Read file before (padded memoryLength (i .memory)) (loadedFrom i)

@@ -5,6 +5,7 @@ use crate::Met;
 use crate::Parts;
 use crate::Section;
 use crate::sections;
+use machine::Machine;
 ghost use mathlib.Core.Path.{_≡_};
 ghost use Rattle.image.specs.Judging.{judgedOf, Judges};
 
@@ -24,7 +25,7 @@ fn from_the_front(file: &[u8]) -> Judged
         Met::Bad(fault) => return Judged::Bad(fault),
         Met::Whole(part) => part,
     };
-    if sections::MOST_BUDGET < sections::budget_in(file, budget) {
+    if Machine::BUDGET < sections::budget_in(file, budget) {
         return Judged::Bad(Fault::Budget(budget.from));
     }
     if budget.to < file.len() {

@@ -5,6 +5,8 @@ mod sections;
 
 pub use judging::judge;
 use machine::Machine;
+pub use sections::LONGEST_FILE;
+pub use sections::longest_file;
 ghost use mathlib.Core.Path.{_≡_};
 ghost use Rattle.image.specs.Loading.{Read, refusedWith, handed};
 
@@ -94,7 +96,7 @@ fn refused(number: u32) -> Loaded
 pub fn read(file: &[u8], memory: &mut [u8]) -> Loaded
     ensures { λ r. ⌜ Read (now (file .entry)) (now (memory .entry)) (now (memory .exit)) (handed r) ⌝ }
 {
-    if memory.len() != sections::MEMORY {
+    if memory.len() != Machine::MEMORY {
         return refused(OTHER_MEMORY);
     }
     let Judged::Good(parts) = judge(file) else {

@@ -9,8 +9,10 @@ use machine::Machine;
 ghost use mathlib.Core.Path.{_≡_};
 ghost use Prim.Native.Nat.{_+_, _*_, _≤_};
 ghost use lib.ListN.{length};
-ghost use Rattle.image.specs.Format.{mostMemory};
-ghost use Rattle.image.specs.Loading.{padded, handed, loadedFrom};
+ghost use Rattle.plain.specs.Zeros.{padded};
+ghost use Rattle.machine.specs.Limits.{memoryLength};
+ghost use Rattle.links.specs.Depths.{cellsDepth};
+ghost use Rattle.image.specs.Loading.{handed, loadedFrom};
 ghost use Rattle.image.specs.Judging.{valuesIn};
 ghost use Rattle.image.specs.Laws.Sound.{GoodFile, imageIn};
 
@@ -33,13 +35,13 @@ fn memory_bytes(file: &[u8], part: Part, memory: &mut [u8])
 }
 
 // The cells, and zeros above them.
-fn cells(file: &[u8], part: Part) -> [u32; 64]
-    requires { ⌜ (part .from + 4 * part .count ≤ length (now file)) × (part .count ≤ 64) ⌝ }
-    ensures { λ r. ⌜ r ≡ padded 64 (valuesIn (now (file .entry)) Section.Cells part) ⌝ }
+fn cells(file: &[u8], part: Part) -> [u32; Machine::CELLS]
+    requires { ⌜ (part .from + 4 * part .count ≤ length (now file)) × (part .count ≤ cellsDepth) ⌝ }
+    ensures { λ r. ⌜ r ≡ padded cellsDepth (valuesIn (now (file .entry)) Section.Cells part) ⌝ }
 {
     let from = part.from;
     let count = part.count;
-    let mut cells = [0u32; 64];
+    let mut cells = [0u32; Machine::CELLS];
     let mut i = 0;
     while i < count {
         cells[i] = sections::cell_at(file, from + 4 * i);
@@ -50,8 +52,8 @@ fn cells(file: &[u8], part: Part) -> [u32; 64]
 
 // The file is known to be good before anything is placed.
 pub(crate) fn image(file: &[u8], parts: Parts, memory: &mut [u8]) -> Loaded
-    requires { ⌜ GoodFile (now file) parts × (length (now memory) ≡ mostMemory) ⌝ }
-    ensures { λ r. ⌜ (now (memory .exit) ≡ padded mostMemory (imageIn (now (file .entry)) parts .memory)) × (handed r ≡ loadedFrom (imageIn (now (file .entry)) parts)) ⌝ }
+    requires { ⌜ GoodFile (now file) parts × (length (now memory) ≡ memoryLength) ⌝ }
+    ensures { λ r. ⌜ (now (memory .exit) ≡ padded memoryLength (imageIn (now (file .entry)) parts .memory)) × (handed r ≡ loadedFrom (imageIn (now (file .entry)) parts)) ⌝ }
 {
     let bytes = parts.memory;
     memory_bytes(file, bytes, memory);

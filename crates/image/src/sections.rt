@@ -10,19 +10,29 @@ ghost use mathlib.Core.Path.{_≡_};
 ghost use Prim.Native.Nat.{_+_, _*_, _≤_};
 ghost use lib.ListN.{length};
 ghost use Rattle.numbers.specs.Bytes.{numberAt};
-ghost use Rattle.image.specs.Format.{limits, budgetOf};
+ghost use Rattle.image.specs.Format.{limits, budgetOf, longestFile};
 ghost use Rattle.image.specs.Judging.{partAt, valuesIn};
-
-// How many bytes the lent memory has.
-pub(crate) const MEMORY: usize = 32768;
-
-pub(crate) const MOST_BUDGET: u32 = 1000000;
 
 // The budget of a file that gives none.
 const DEFAULT_BUDGET: u32 = 10000;
 
 // A count or a cell has 4 bytes.
 const NUMBER: usize = 4;
+
+// The most bytes that a good file has: each section's count and its most elements. A buffer of one byte more holds no file cut to a good one.
+pub const LONGEST_FILE: usize = NUMBER
+    + Machine::MEMORY
+    + NUMBER
+    + NUMBER * Machine::CELLS
+    + NUMBER
+    + NUMBER;
+
+// The same as a number that is held to its definition: an array's length can be no call.
+pub fn longest_file() -> usize
+    ensures { λ r. ⌜ r ≡ longestFile ⌝ }
+{
+    LONGEST_FILE
+}
 
 // One line a section.
 pub(crate) fn limits_of(section: Section) -> Limits
@@ -32,7 +42,7 @@ pub(crate) fn limits_of(section: Section) -> Limits
         Section::Memory => Limits {
             width: 1,
             fewest: 1,
-            most: MEMORY,
+            most: Machine::MEMORY,
         },
         Section::Cells => Limits {
             width: NUMBER,

@@ -2,7 +2,7 @@
 use mathlib.Core.Path.{_≡_, sym, _∙_}
 use native.Mathlib.Omega.{arith}
 use lib.ListN.{length}
-use Rattle.image.specs.Format.{mostMemory}
+use Rattle.machine.specs.Limits.{memoryLength}
 use Rattle.image.specs.Laws.Sound.{good-file}
 use Rattle.image.proofs.Answers.{good-answer, memory-refused, file-refused}
 use borrow.Author.Needs.{needs}
@@ -15,7 +15,7 @@ refused-requires c κs = search needs
 returns : tie.Need-returns
 returns c =
     let start = c .before .before .before .before in
-    let other : length (start .args .memory .now) ≡ mostMemory → ⊥ = omega arith in
+    let other : length (start .args .memory .now) ≡ memoryLength → ⊥ = omega arith in
     memory-refused (start .args .file .now) (start .args .memory .now) _ other (c .refused .ensures)
 
 judge-requires : tie.Need-judge-requires
@@ -33,13 +33,13 @@ refused-requires-2 c κs = search needs
 returns-2 : tie.Need-returns-2
 returns-2 c =
     let start = c .before .before .before .before .before .before .before in
-    let long : length (start .args .memory .now) ≡ mostMemory = omega arith in
+    let long : length (start .args .memory .now) ≡ memoryLength = omega arith in
     file-refused (start .args .file .now) (start .args .memory .now) _ _ _ long (c .before .before .before .judge .ensures .clause) (c .before .enum-told .given .1) (c .refused2 .ensures)
 
 image-requires : tie.Need-image-requires
 image-requires c κs =
     let start = c .before .before .before .before .before .before .before .before in
-    let long : length (start .args .memory .now) ≡ mostMemory = omega arith in
+    let long : length (start .args .memory .now) ≡ memoryLength = omega arith in
     (good-file (start .args .file .now) _ (sym (c .before .before .before .before .judge .ensures .clause) ∙ c .before .before .parts .given .1), long)
 
 same-length : tie.Need-same-length
@@ -48,7 +48,7 @@ same-length c = search needs
 returns-3 : tie.Need-returns-3
 returns-3 c =
     let start = c .before .before .before .before .before .before .before .before .before .before .before in
-    let long : length (start .args .memory .now) ≡ mostMemory = omega arith in
+    let long : length (start .args .memory .now) ≡ memoryLength = omega arith in
     let known = c .before .before .before .before .before .before .before .before .before .before .shared-slice-known in
     good-answer (start .args .file .now) (start .args .memory .now) _ _ _ (λ i. known .given i .fits) long (sym (c .before .before .before .before .before .before .before .judge .ensures .clause) ∙ c .before .before .before .before .before .parts .given .1)
     (c .before .before .image .ensures .0) (c .before .before .image .ensures .1)

@@ -5,7 +5,8 @@ use Prim.Native.Nat.{ℕ, _+_, _*_, _≤_}
 use native.Mathlib.Omega.{arith}
 use lib.ListN.{length, length-append}
 use borrow.Author.Tests.{le-ltb}
-use Rattle.image.specs.Format.{Image, Allowed, countWidth, sectionOf, budgetOf, spelled, mostBudget}
+use Rattle.machine.specs.Limits.{mostBudget}
+use Rattle.image.specs.Format.{Image, Allowed, countWidth, sectionOf, budgetOf, spelled, longestFile}
 use Rattle.image.specs.Judging.{partAt, valuesIn, endJudged, judgedOf, memoryPart, cellsPart, budgetPart, partsOf}
 use Rattle.image.specs.Laws.Section.{length-section, section-judged, section-read}
 use Rattle.image.specs.Laws.Sound.{imageIn}
@@ -44,6 +45,10 @@ module _ (i : Image) (ok : Allowed i) where
       ∙ length-append (first ++ second) (third ++ [])
       ∙ ap (λ (l : List ℕ). length (first ++ second) + length l) (append-nil third)
       ∙ omega arith
+
+  -- no file is longer than the longest
+  pub no-longer : length (spelled i) ≤ longestFile
+  no-longer = omega (arith, whole-length, ok .memory-within .fit, ok .cells-within .fit, ok .budget-within .fit)
 
   memory-judged : partAt (spelled i) Memory 0 ≡ met.Whole (memoryPart i)
   unfolding spelled

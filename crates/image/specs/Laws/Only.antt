@@ -3,8 +3,10 @@ use mathlib.Core.List.{List}
 use mathlib.Core.Path.{_≡_, refl, sym, ap, _∙_}
 use Prim.Native.Nat.{ℕ}
 use lib.ListN.{length}
-use Rattle.image.specs.Format.{Image, Allowed, spelled, mostMemory}
-use Rattle.image.specs.Loading.{Handed, Reading, Read, wrong-memory, not-spelled, read, padded, loadedFrom}
+use Rattle.machine.specs.Limits.{memoryLength}
+use Rattle.plain.specs.Zeros.{padded}
+use Rattle.image.specs.Format.{Image, Allowed, spelled}
+use Rattle.image.specs.Loading.{Handed, Reading, Read, wrong-memory, not-spelled, read, loadedFrom}
 use Rattle.image.specs.Judging.{judgedOf, partsOf, Judges}
 use Rattle.image.specs.Laws.Sound.{imageIn}
 use Rattle.image.specs.Laws.Complete.{found, accepted}
@@ -34,4 +36,4 @@ only-read file before m₁ m₂ h₁ h₂ (not-spelled e n) (read j f b s) = abs
 only-read file before m₁ m₂ h₁ h₂ (read i e a s) (wrong-memory h) = absurd (h e)
 only-read file before m₁ m₂ h₁ h₂ (read i e a s) (not-spelled f n) = absurd (n i a s)
 only-read file before m₁ m₂ h₁ h₂ (read i e a s) (read j f b t) =
-    ap (λ (x : Image). record { memory = padded mostMemory (x .memory); handed = loadedFrom x }) (only-image i j a b (s ∙ sym t))
+    ap (λ (x : Image). record { memory = padded memoryLength (x .memory); handed = loadedFrom x }) (only-image i j a b (s ∙ sym t))

@@ -8,7 +8,8 @@ use lib.Dec.{leb}
 use lib.ListN.{length, take, drop, length-append, take-append-drop}
 use lib.Seq.{drop-drop}
 use borrow.Author.Tests.{le-leb, leb-true}
-use Rattle.plain.specs.Choice.{pick, both}
+use Rattle.plain.specs.Choice.{pick}
+use Rattle.plain.specs.Laws.Choice.{both-true}
 use Rattle.numbers.specs.Bytes.{numberAt, bytesOf}
 use Rattle.numbers.specs.Slices.{inside}
 use Rattle.numbers.specs.Rows.{rowAt, rowOf}
@@ -100,10 +101,6 @@ elements-inside file s at part h =
     let size : limits s .width * numberAt countWidth file at ≡ limits s .width * part .count = ap (λ (x : Part). limits s .width * x .count) (h .is) in
     let in-file : part .to ≤ length file = h .in-file in
     omega arith
-
-both-true : (a b : Bool) → both a b ≡ true → (a ≡ true) × (b ≡ true)
-both-true true b e = (refl, e)
-both-true false b e = absurd (let z : _≡_ {A = ℕ} 0 1 = cc in omega arith)
 
 -- a test that a whole section has passed
 passed : (t : Bool) (x y : Met) (part : Part) → (y ≡ met.Whole part → ⊥) → pick t x y ≡ met.Whole part → (t ≡ true) × (x ≡ met.Whole part)

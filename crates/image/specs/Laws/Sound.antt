@@ -10,7 +10,8 @@ use borrow.Author.Tests.{ltb-false}
 use Rattle.plain.specs.Choice.{pick}
 use Rattle.numbers.specs.Laws.Bytes.{Bytes}
 use Rattle.numbers.specs.Laws.Rows.{length-row-at, row-below}
-use Rattle.image.specs.Format.{Image, Allowed, Within, limits, sectionOf, budgetOf, spelled, mostBudget}
+use Rattle.machine.specs.Limits.{mostBudget}
+use Rattle.image.specs.Format.{Image, Allowed, Within, limits, sectionOf, budgetOf, spelled}
 use Rattle.image.specs.Judging.{partAt, valuesIn, endJudged, after, judgedOf}
 use Rattle.image.specs.Laws.Section.{WholeAt, whole-at, section-spelled}
 use Rattle.image.specs.declared.Section.{Section}

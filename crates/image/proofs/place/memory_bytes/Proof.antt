@@ -8,7 +8,7 @@ use native.Mathlib.Omega.{arith}
 use lib.ListN.{length, take, drop, getD, set, replicate, length-set, length-drop, take-append-drop}
 use lib.Seq.{getD-drop, paste, paste-zero, paste-suc}
 use borrow.Author.Needs.{needs}
-use Rattle.image.specs.Loading.{padded}
+use Rattle.plain.specs.Zeros.{padded}
 use Rattle.image.proofs.Placing.{cleared, filled, bytes-read}
 use Rattle.image.proofs.place.memory_bytes.Statement.{statement}
 use Rattle.image.proofs.place.memory_bytes.Tie as tie
