@@ -36,19 +36,7 @@ pub fn report(ran: Ran, out: &mut [u8]) -> Printed
     if Machine::CELLS < p {
         return Printed::Refused(2);
     }
-    let steps = ran.steps;
-    let cycles = ran.cycles;
-    let links = machine.links;
-    let numbers = [
-        ran.answer as u64,
-        steps.0 as u64,
-        cycles.0 as u64,
-        machine.counter as u64,
-        p as u64,
-        links.r as u64,
-        links.s as u64,
-        links.e as u64,
-    ];
+    let numbers = lines::numbers_of(ran);
     let cells = machine.cells;
     let mut text = [0u8; LONGEST];
     let first = lines::put_line(&mut text, numbers);
