@@ -1,13 +1,13 @@
 -- Laws of numbers as bytes, for every count of bytes: what is spelled is read, and what is read is spelled.
-use mathlib.Core.List.{List, [], _∷_, _++_, append-nil}
-use mathlib.Core.Path.{_≡_, refl, sym, ap, subst, _∙_}
+use mathlib.Core.List.{List, [], _∷_, _++_}
+use mathlib.Core.Path.{_≡_, refl, sym, ap, _∙_}
 use Prim.Native.Nat.{ℕ, zero, suc, _+_, _*_, _/_, _%_, _^_, _≤_, _<_}
-use native.Mathlib.Nat.{add-zero, suc-add, zero-add, div-one, mod-eq-of-lt, div-div-eq-div-mul}
+use native.Mathlib.Nat.{add-zero, suc-add, zero-add, div-one, mod-eq-of-lt}
 use native.Mathlib.Omega.{arith}
-use lib.ListN.{length, take, drop, getD, length-drop, List·getD-append}
-use lib.Seq.{take-suc, getD-append-add, getD-drop, getD-take, length-take-le}
+use lib.ListN.{length, take, drop, length-drop, List·getD-append}
+use lib.Seq.{take-suc, getD-append-add, getD-drop, getD-take}
 use Rattle.numbers.specs.Bytes.{byteAt, numberAt, bytesOf}
-use Rattle.numbers.specs.Laws.Powers.{power-suc, power-add, div-power, mod-below, mod-last}
+use Rattle.numbers.specs.Laws.Powers.{power-suc, div-power, mod-last}
 
 -- every element is a byte
 abbrev pub Bytes : List ℕ → Type 0

@@ -2,7 +2,6 @@
 use mathlib.Core.List.{List}
 use mathlib.Core.Path.{_≡_, refl, sym, ap, _∙_}
 use Prim.Native.Nat.{ℕ}
-use Rattle.plain.specs.Answer.{Answer}
 use Rattle.numbers.specs.Slices.{saysFound, saysFoundEight, saysWritten, readAt, Wrote, writeAt, saysPut, Spelled, putAt}
 use Rattle.numbers.specs.declared.Found.{Found}
 use Rattle.numbers.specs.declared.Found.the-variants.{Number, Outside}

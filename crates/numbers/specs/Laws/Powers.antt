@@ -1,5 +1,5 @@
 -- Powers of 256 and remainders of them.
-use mathlib.Core.Path.{_≡_, refl, sym, ap, _∙_}
+use mathlib.Core.Path.{_≡_, sym, ap, _∙_}
 use Prim.Native.Nat.{ℕ, suc, _+_, _*_, _/_, _%_, _^_, _≤_, _<_}
 use native.Mathlib.Nat.{mul-suc, mul-assoc, add-mul, one-mul, mul-le-mul-right, div-add-mod', mod-lt, mod-eq-of-lt, mul-add-mod-self-right, div-div-eq-div-mul}
 use native.Mathlib.Omega.{arith}
@@ -16,9 +16,6 @@ power-add m n =
 -- a quotient by one power of 256, then by another
 pub div-power : (m n v : ℕ) → v / 2 ^ (8 * n) / 2 ^ (8 * m) ≡ v / 2 ^ (8 * (m + n))
 div-power m n v = div-div-eq-div-mul v (2 ^ (8 * n)) (2 ^ (8 * m)) ∙ ap (λ (k : ℕ). v / k) (sym (power-add m n))
-
-pub mod-below : (n v : ℕ) → v % 2 ^ (8 * n) < 2 ^ (8 * n)
-mod-below n v = mod-lt v (pow-pos (8 * n))
 
 -- a remainder by a product: that of the quotient, then that of the number
 pub mod-parts : (k b v : ℕ) → 0 < k → 0 < b → v % (k * b) ≡ v / b % k * b + v % b

@@ -1,15 +1,15 @@
 -- Laws of a text that grows.
-use mathlib.Core.List.{List, [], _∷_, _++_, append-assoc}
-use mathlib.Core.Path.{_≡_, refl, sym, ap, subst, _∙_}
-use Prim.Native.Nat.{ℕ, _+_, _≤_, _<_}
+use mathlib.Core.List.{List, [], _∷_, _++_}
+use mathlib.Core.Path.{_≡_, refl, sym, ap, _∙_}
+use Prim.Native.Nat.{ℕ, _+_, _≤_}
 use native.Mathlib.Nat.{add-zero}
 use native.Mathlib.Omega.{arith}
 use lib.ListN.{length, take, drop, set, length-append}
-use lib.Seq.{sets, sets-eq, length-sets, length-take-le, take-at}
-use borrow.Author.Tests.{le-leb}
-use Rattle.plain.specs.Answer.{Answer, refuses, gives}
-use Rattle.numbers.specs.Slices.{tooShort, Spelled, putAt}
+use lib.Seq.{sets, sets-eq, length-sets, take-at}
+use Rattle.plain.specs.Answer.{refuses, gives}
+use Rattle.numbers.specs.Slices.{Spelled, putAt}
 use Rattle.numbers.specs.Putting.{Added}
+use Rattle.numbers.specs.Laws.Slices.{put-inside}
 use Rattle.numbers.specs.Laws.Writing.{sets-append}
 
 pub added-none : (l : List ℕ) (at : ℕ) → Added l at [] l at
@@ -41,20 +41,16 @@ added-text {l} {m} {xs} {next} p h =
     let end : next ≡ length xs = p .next-is ∙ omega arith in
     ap (take next) (p .text-is ∙ sets-eq xs l 0 (omega arith)) ∙ take-at xs (drop (0 + length xs) l) next (sym end)
 
--- where a function that puts characters found room, and that it does where there is room
+-- where there is room characters are put and not refused
 pub put-added : (l m xs : List ℕ) (at next : ℕ) → record { said = gives next; text = m } ≡ putAt xs l at → at + length xs ≤ length l → Added l at xs m next
-unfolding putAt
 put-added l m xs at next e h =
     let is : _≡_ {A = Spelled} (record { said = gives next; text = m }) (record { said = gives (at + length xs); text = sets l at xs }) =
-    e ∙ simp (le-leb (at + length xs) (length l) h) in
+    e ∙ put-inside xs l at h in
     let said : gives next ≡ gives (at + length xs) = ap (λ (s : Spelled). s .said) is in
     record { next-is = cc; text-is = ap (λ (s : Spelled). s .text) is }
 
 pub put-has-room : (l m xs : List ℕ) (at n : ℕ) → record { said = refuses n; text = m } ≡ putAt xs l at → at + length xs ≤ length l → ⊥
-unfolding putAt
 put-has-room l m xs at n e h =
-    let is : _≡_ {A = Spelled} (record { said = refuses n; text = m }) (record { said = gives (at + length xs); text = sets l at xs }) =
-    e ∙ simp (le-leb (at + length xs) (length l) h) in
-    let said : refuses n ≡ gives (at + length xs) = ap (λ (s : Spelled). s .said) is in
+    let said : refuses n ≡ gives (at + length xs) = ap (λ (s : Spelled). s .said) (e ∙ put-inside xs l at h) in
     let never : _≡_ {A = ℕ} 0 1 = cc in
     omega arith

@@ -1,14 +1,14 @@
 -- Laws of rows of numbers: what is spelled is read, and what is read is spelled.
 use mathlib.Core.List.{List, [], _∷_, _++_, append-assoc, append-nil}
 use mathlib.Core.Path.{_≡_, refl, sym, ap, _∙_}
-use Prim.Native.Nat.{ℕ, zero, suc, _+_, _*_, _^_, _≤_, _<_}
+use Prim.Native.Nat.{ℕ, zero, suc, _+_, _*_, _^_, _≤_}
 use native.Mathlib.Nat.{mul-suc, mul-zero}
 use native.Mathlib.Omega.{arith}
 use lib.ListN.{length, take, drop, length-append}
 use lib.Seq.{drop-drop, take-add}
 use Rattle.numbers.specs.Bytes.{numberAt, bytesOf}
 use Rattle.numbers.specs.Rows.{rowAt, rowOf, Below}
-use Rattle.numbers.specs.Laws.Bytes.{Bytes, length-bytes, number-fits, number-below, spelled-number, only-number}
+use Rattle.numbers.specs.Laws.Bytes.{Bytes, length-bytes, number-fits, number-below, spelled-number}
 
 pub length-row : (n : ℕ) (vs : List ℕ) → length (rowOf n vs) ≡ n * length vs
 unfolding rowOf

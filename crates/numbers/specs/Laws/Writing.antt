@@ -4,7 +4,7 @@ use mathlib.Core.Path.{_≡_, refl, sym, ap, _∙_}
 use Prim.Native.Nat.{ℕ, suc, _+_, _*_, _/_, _%_, _^_, _≤_, _<_}
 use native.Mathlib.Nat.{add-zero, mod-eq-of-lt}
 use native.Mathlib.Omega.{arith}
-use lib.ListN.{length, take, drop, getD, set}
+use lib.ListN.{length, take, drop, set}
 use lib.Seq.{sets, sets-eq, set-comm, getD-set-other, length-take-le}
 use Rattle.numbers.specs.Bytes.{byteAt, numberAt, bytesOf}
 use Rattle.numbers.specs.Laws.Bytes.{length-bytes, bytes-parts, bytes-low, same-number, number-read}

@@ -1,6 +1,6 @@
 -- No second answer: two answers that meet a promise, with the buffers that they leave, are equal.
 use mathlib.Core.List.{List}
-use mathlib.Core.Path.{_≡_, refl, sym, ap, _∙_}
+use mathlib.Core.Path.{_≡_, sym, ap, _∙_}
 use Prim.Native.Nat.{ℕ}
 use Rattle.machine.specs.declared.Ran.{Ran}
 use Rattle.report.specs.Printing.{saysPrinted, Reported, reportOf, refusalOf}
