@@ -10,7 +10,6 @@ use Rattle.image.specs.declared.Loaded.{Loaded}
 use Rattle.image.specs.declared.Verdict.{Verdict}
 use Rattle.image.specs.declared.Verdict.the-variants.{Good, Refused}
 use Rattle.report.specs.Printing.{Reported, reportOf, refusalOf}
-use Rattle.report.specs.declared.Printed.the-variants as printed
 use Rattle.glidecotton.specs.Bench.{Benched, Benches, benchOf, afterRead, afterRun, with}
 
 module _ (image memory out mid : List ℕ) (loaded : Loaded) (is-read : Read image memory mid (handed loaded)) where
@@ -23,8 +22,8 @@ module _ (image memory out mid : List ℕ) (loaded : Loaded) (is-read : Read ima
       record { reading = read; is-read = is-read; comes-to = h ∙ ap (λ (w : Verdict). afterRead (saysVerdict w) read out) (sym e) }
 
   pub no-text : (number : ℕ) → loaded .verdict ≡ Refused number → number ≡ otherMemory
-      → Benches image memory out (record { printed = printed.Refused number; memory = mid; out = out })
-  no-text number e two = by-verdict (Refused number) e _ (simp (eq-eqb number otherMemory two) (ap (λ (n : ℕ). record { printed = printed.Refused n; memory = mid; out = out }) two))
+      → Benches image memory out (record { printed = refuses number; memory = mid; out = out })
+  no-text number e two = by-verdict (Refused number) e _ (simp (eq-eqb number otherMemory two) (ap (λ (n : ℕ). record { printed = refuses n; memory = mid; out = out }) two))
 
   pub refusal-text : (number : ℕ) (reported : Reported) → loaded .verdict ≡ Refused number → (number ≡ otherMemory → ⊥) → reported ≡ refusalOf number out
       → Benches image memory out (with mid reported)

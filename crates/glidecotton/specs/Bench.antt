@@ -8,11 +8,10 @@ use Rattle.plain.specs.Choice.{pick}
 use Rattle.machine.specs.Run.{After, runOf}
 use Rattle.image.specs.Loading.{Reading, Read, otherMemory}
 use Rattle.report.specs.Printing.{Reported, reportOf, refusalOf, untouched}
-use Rattle.report.specs.declared.Printed.{Printed}
 
 -- the answer, and both lent buffers afterwards
 pub record Benched : Type 0 where
-  pub printed : Printed
+  pub printed : Answer ℕ
   pub memory : List ℕ
   pub out : List ℕ
 

@@ -2,14 +2,13 @@
 use mathlib.Core.List.{List}
 use mathlib.Core.Path.{_≡_}
 use Prim.Native.Nat.{ℕ}
-use Rattle.report.specs.declared.Printed.{Printed}
-use Rattle.report.specs.declared.Printed.the-variants.{Text, Refused}
+use Rattle.plain.specs.Answer.{Answer, refuses, gives}
 use Rattle.glidecotton.specs.Bench.{Benched, Benches}
 
 -- how long the text is, or the number of the refusal
-abbrev pub numberOf : Printed → ℕ
-numberOf (Text count) = count
-numberOf (Refused number) = number
+abbrev pub numberOf : Answer ℕ → ℕ
+numberOf (gives count) = count
+numberOf (refuses number) = number
 
 -- the number, and both lent buffers afterwards
 pub record Hosted : Type 0 where

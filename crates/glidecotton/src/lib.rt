@@ -1,12 +1,13 @@
 // The whole job: an image in, the bench program's text out, for programs and for hosts in other languages.
 use report::Printed;
 ghost use mathlib.Core.Path.{_≡_};
+ghost use Rattle.report.specs.Printing.{saysPrinted};
 ghost use Rattle.glidecotton.specs.Bench.{Benches};
 ghost use Rattle.glidecotton.specs.Host.{numberOf, Hosts};
 
 // Reads the image into the lent memory, runs it and writes its text.
 pub fn bench(image: &[u8], memory: &mut [u8], out: &mut [u8]) -> Printed
-    ensures { λ r. ⌜ Benches (now (image .entry)) (now (memory .entry)) (now (out .entry)) (record { printed = r; memory = now (memory .exit); out = now (out .exit) }) ⌝ }
+    ensures { λ r. ⌜ Benches (now (image .entry)) (now (memory .entry)) (now (out .entry)) (record { printed = saysPrinted r; memory = now (memory .exit); out = now (out .exit) }) ⌝ }
 {
     let loaded = image::read(image, memory);
     let verdict = loaded.verdict;
@@ -21,13 +22,19 @@ pub fn bench(image: &[u8], memory: &mut [u8], out: &mut [u8]) -> Printed
     report::report(ran, out)
 }
 
+fn wide(number: u32) -> u64
+    ensures { λ r. ⌜ r ≡ number ⌝ }
+{
+    number as u64
+}
+
 // The answer of a bench as one number, which a text's length never meets.
 fn number(printed: Printed) -> u64
-    ensures { λ r. ⌜ r ≡ numberOf printed ⌝ }
+    ensures { λ r. ⌜ r ≡ numberOf (saysPrinted printed) ⌝ }
 {
     match printed {
         Printed::Text(count) => count as u64,
-        Printed::Refused(number) => number as u64,
+        Printed::Refused(number) => wide(number),
     }
 }
 

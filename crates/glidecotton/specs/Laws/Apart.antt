@@ -7,37 +7,37 @@ use native.Mathlib.Omega.{arith}
 use lib.Dec.{leb}
 use lib.ListN.{length, drop}
 use borrow.Author.Tests.{leb-true}
+use Rattle.plain.specs.Answer.{Answer, refuses, gives}
 use Rattle.plain.specs.Choice.{pick}
 use Rattle.machine.specs.Run.{runOf}
 use Rattle.machine.specs.declared.Ran.{Ran}
 use Rattle.image.specs.Loading.{Handed, Read, wrong-memory, not-spelled, read, refusedWith, loadedFrom}
 use Rattle.report.specs.Printing.{Reported, printedIn, reportOf, refusalOf, untouched}
+use Rattle.report.specs.Sizes.{mostCells}
 use Rattle.report.specs.Text.{textOf, refusalText}
 use Rattle.report.specs.Laws.Size.{text-size}
 use Rattle.report.specs.Laws.Sample.{sample-refusal}
-use Rattle.report.specs.declared.Printed.{Printed}
-use Rattle.report.specs.declared.Printed.the-variants.{Text, Refused}
 use Rattle.glidecotton.specs.Bench.{Benched, Benches, benchOf}
 use Rattle.glidecotton.specs.Host.{numberOf}
 
 -- refused with 2, or a text of at least 3 bytes
-abbrev pub Apart : Printed → Type 0
-Apart (Text count) = 3 ≤ count
-Apart (Refused number) = number ≡ 2
+abbrev pub Apart : Answer ℕ → Type 0
+Apart (gives count) = 3 ≤ count
+Apart (refuses number) = number ≡ 2
 
 printed-apart : (text out : List ℕ) → 3 ≤ length text → Apart (printedIn text out .printed)
 unfolding printedIn
 printed-apart text out h = by-test (leb (length text) (length out)) (text ++ drop (length text) out)
   where
-    by-test : (t : Bool) (after : List ℕ) → Apart (pick {A = Reported} t (record { printed = Text (length text); out = after }) (untouched out) .printed)
+    by-test : (t : Bool) (after : List ℕ) → Apart (pick {A = Reported} t (record { printed = gives (length text); out = after }) (untouched out) .printed)
     by-test true after = h
     by-test false after = refl
 
 report-apart : (ran : Ran) (out : List ℕ) → Apart (reportOf ran out .printed)
 unfolding reportOf
-report-apart ran out = by-test (leb (ran .machine .p) 64) refl
+report-apart ran out = by-test (leb (ran .machine .p) mostCells) refl
   where
-    by-test : (t : Bool) → leb (ran .machine .p) 64 ≡ t → Apart (pick t (printedIn (textOf ran) out) (untouched out) .printed)
+    by-test : (t : Bool) → leb (ran .machine .p) mostCells ≡ t → Apart (pick t (printedIn (textOf ran) out) (untouched out) .printed)
     by-test true e =
         let long : 16 ≤ length (textOf ran) = text-size ran (leb-true _ _ e) .0 in
         printed-apart (textOf ran) out (omega arith)
@@ -58,9 +58,9 @@ bench-apart image memory out done h =
     subst (λ (d : Benched). Apart (d .printed)) (sym (h .comes-to)) (read-apart image memory (h .reading .memory) out (h .reading .handed) (h .is-read))
 
 -- a host's number is 2 for every refusal and for nothing else
-pub two-is-refused : (image memory out : List ℕ) (done : Benched) → Benches image memory out done → numberOf (done .printed) ≡ 2 → done .printed ≡ Refused 2
+pub two-is-refused : (image memory out : List ℕ) (done : Benched) → Benches image memory out done → numberOf (done .printed) ≡ 2 → done .printed ≡ refuses 2
 two-is-refused image memory out done h two = by-case (done .printed) (bench-apart image memory out done h) two
   where
-    by-case : (p : Printed) → Apart p → numberOf p ≡ 2 → p ≡ Refused 2
-    by-case (Text count) a e = absurd (omega arith)
-    by-case (Refused number) a e = ap Refused e
+    by-case : (p : Answer ℕ) → Apart p → numberOf p ≡ 2 → p ≡ refuses 2
+    by-case (gives count) a e = absurd (omega arith)
+    by-case (refuses number) a e = ap refuses e
