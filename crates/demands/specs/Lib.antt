@@ -12,6 +12,8 @@ pub mod Sessions
 pub mod Back
 -- so many steps ahead
 pub mod Walk
+-- who touches the extend flag
+pub mod Flag
 -- three starred lines of the bench sheet, taken apart
 pub mod Cases
 -- an image for demand 3 over two runs

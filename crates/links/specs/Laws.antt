@@ -14,6 +14,8 @@ pub mod Stands
 pub mod Dropped
 -- a CATCH makes it stand, and one more action leaves it standing or takes it away
 pub mod Standing
+-- dropping a level moves only its pointer
+pub mod Contents
 -- what a call and a CATCH make, field by field
 pub mod Called
 -- fresh links are sound

@@ -1,8 +1,8 @@
 -- Both returns are the definition's own test.
 use borrow.Author.Tests.{lt-ltb, le-ltb}
 use borrow.Author.Needs.{needs}
-use Rattle.report.proofs.digits.digit_of.Statement.{statement}
-use Rattle.report.proofs.digits.digit_of.Tie as tie
+use Rattle.numbers.proofs.digits.digit_of.Statement.{statement}
+use Rattle.numbers.proofs.digits.digit_of.Tie as tie
 
 add-result : tie.Need-add-result
 add-result c = search needs
