@@ -2,6 +2,8 @@
 pub mod Histories
 -- every run is a history of completed instructions
 pub mod Course
+-- what is counted over one history after another
+pub mod Joined
 -- the first test that holds has the lowest number
 pub mod Lowest
 -- a refusal's number

@@ -8,6 +8,8 @@ pub mod Added
 pub mod Lowest
 -- runs one after another
 pub mod Sessions
+-- calls of the exported run on the same bytes
+pub mod Calls
 -- when a machine is back where it was before a CATCH
 pub mod Back
 -- so many steps ahead

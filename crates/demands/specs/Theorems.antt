@@ -10,6 +10,8 @@ pub mod Images
 pub mod Handed
 -- any number of runs is one history
 pub mod Sessions
+-- demand 3 for hosts that hold a machine as bytes
+pub mod Calls
 -- a CATCH that nothing refuses is carried out
 pub mod Carried
 -- demand 3 on three starred cases

@@ -1,15 +1,19 @@
 // A run for hosts in other languages that hold a whole machine as bytes. It stands apart from the bench job, so that each of the
 // two exported functions has the run compiled into it.
+use machine::Machine;
 ghost use mathlib.Core.Path.{_≡_};
 ghost use Rattle.host.specs.Handed.{Hands};
 ghost use Rattle.host.specs.Laws.Budget.{narrowedTo};
+
+// The least budget that a run refuses.
+const TOO_MUCH: u32 = Machine::BUDGET + 1;
 
 // A budget that 32 bits do not hold stays one that is refused.
 fn narrowed(budget: u64) -> u32
     ensures { λ r. ⌜ r ≡ narrowedTo budget ⌝ }
 {
-    if 0xFFFFFFFF < budget {
-        return 0xFFFFFFFF;
+    if (Machine::BUDGET as u64) < budget {
+        return TOO_MUCH;
     }
     budget as u32
 }

@@ -1,8 +1,8 @@
--- Laws of parts that are put after the bytes so far: a number that was written, a row that is put, the fields of a record one after the other.
+-- Laws of parts that are put after the bytes before them: a number that was written, a row that is put, the fields of a record in their order.
 use mathlib.Core.List.{List, [], _∷_, _++_, append-assoc, append-nil}
 use mathlib.Core.Path.{_≡_, refl, sym, ap, subst, _∙_}
 use Prim.Native.Nat.{ℕ, _+_, _*_, _^_, _≤_, _<_}
-use native.Mathlib.Nat.{add-zero, suc-mul, zero-mul}
+use native.Mathlib.Nat.{suc-mul, zero-mul}
 use native.Mathlib.Numerals.{add-one}
 use native.Mathlib.Omega.{arith}
 use lib.ListN.{length, take, drop, getD, length-append}
@@ -19,8 +19,7 @@ use Rattle.state.specs.Promise.{Gives, filled}
 use Rattle.state.specs.Laws.Rows.{each-more, all-more}
 
 -- a number written inside the state
-pub number-put : (n v : ℕ) (l : List ℕ) (at : ℕ) (w : Wrote) → at + n ≤ length l → v < 2 ^ (8 * n) → w ≡ writeAt n v l at
-    → Put (number n) l at v (w .bytes) (at + n)
+pub number-put : (n v : ℕ) (l : List ℕ) (at : ℕ) (w : Wrote) → at + n ≤ length l → v < 2 ^ (8 * n) → w ≡ writeAt n v l at → Put (number n) l at v (w .bytes)
 unfolding writeAt
 number-put n v l at w inside fit e =
     let vs : List ℕ = bytesOf n v in
@@ -29,36 +28,39 @@ number-put n v l at w inside fit e =
     let front : length (take at l ++ vs) ≡ at + n = length-append (take at l) vs ∙ omega (arith, length-take-le at l (omega arith)) in
     record {
       fit = fit;
-      next-is = refl;
       bytes-are = ap (take (at + n)) (written ∙ sets-eq vs l at (omega arith)) ∙ take-at (take at l ++ vs) (drop (at + length vs) l) (at + n) front;
       as-long = ap length written ∙ length-sets l at vs;
     }
 
--- `Putting part l from n xs m at i`: of a row of n elements that is put from its front, the first i have been put
+-- `Putting part l from n xs m i`: of a row of n elements that is put from its front, the first i have been put
 module _ {A : Type 0} (part : Part A) (l : List ℕ) (from n : ℕ) (xs : List A) where
-  pub record Putting (m : List ℕ) (at i : ℕ) : Type 0 where
+  pub record Putting (m : List ℕ) (i : ℕ) : Type 0 where
     pub in-row : i ≤ n
     pub long : length xs ≡ n
-    pub done : Put (row i part) l from (take i xs) m at
+    pub done : Put (row i part) l from (take i xs) m
 
-  pub putting-none : length xs ≡ n → Putting l from 0
+  pub putting-none : length xs ≡ n → Putting l 0
   unfolding each
   putting-none long =
-      let none : 0 * part .width ≡ 0 = zero-mul (part .width) in
+      let start : from + 0 * part .width ≡ from = omega (arith, zero-mul (part .width)) in
       record {
         in-row = omega arith;
         long = long;
-        done = record { fit = (refl, tt); next-is = omega arith; bytes-are = sym (append-nil (take from l)); as-long = refl };
+        done =
+            record {
+              fit = (refl, tt);
+              bytes-are = ap (λ (k : ℕ). take k l) start ∙ sym (append-nil (take from l));
+              as-long = refl;
+            };
       }
 
-  pub putting-more : {m : List ℕ} {at i : ℕ} → Putting m at i → i < n → (d : A) {k : List ℕ} {end : ℕ} → Put part m at (getD xs i d) k end → Putting k end (i + 1)
-  putting-more {m} {at} {i} p less d {k} {end} q =
+  pub putting-more : {m : List ℕ} {i : ℕ} → Putting m i → i < n → (d : A) {k : List ℕ} → Put part m (from + i * part .width) (getD xs i d) k → Putting k (i + 1)
+  putting-more {m} {i} p less d {k} q =
       let x : A = getD xs i d in
       let long : length xs ≡ n = p .long in
       let wider : i * part .width + part .width ≡ (i + 1) * part .width = sym (suc-mul i (part .width)) ∙ ap (λ (j : ℕ). j * part .width) (sym (add-one i)) in
+      let end : from + (i + 1) * part .width ≡ from + i * part .width + part .width = omega arith in
       let grown : take (i + 1) xs ≡ take i xs ++ (x ∷ []) = ap (λ (j : ℕ). take j xs) (add-one i) ∙ take-suc xs i d (omega arith) in
-      let here : at ≡ from + i * part .width = p .done .next-is in
-      let there : end ≡ at + part .width = q .next-is in
       record {
         in-row = omega arith;
         long = long;
@@ -68,9 +70,9 @@ module _ {A : Type 0} (part : Part A) (l : List ℕ) (from n : ℕ) (xs : List A
                 length-take-le (i + 1) xs (omega arith),
                 subst (All (part .Fits)) (sym grown) (all-more (part .Fits) (take i xs) x (p .done .fit .1) (q .fit)),
               );
-              next-is = omega arith;
               bytes-are =
-                  q .bytes-are
+                  ap (λ (j : ℕ). take j k) end
+                  ∙ q .bytes-are
                   ∙ ap (λ (t : List ℕ). t ++ part .bytes x) (p .done .bytes-are)
                   ∙ append-assoc (take from l) (each (part .bytes) (take i xs)) (part .bytes x)
                   ∙ ap (λ (t : List ℕ). take from l ++ t) (sym (each-more (part .bytes) (take i xs) x) ∙ ap (each (part .bytes)) (sym grown));
@@ -78,33 +80,59 @@ module _ {A : Type 0} (part : Part A) (l : List ℕ) (from n : ℕ) (xs : List A
             };
       }
 
-  pub putting-all : {m : List ℕ} {at i : ℕ} → Putting m at i → n ≤ i → Put (row n part) l from xs m at
-  putting-all {m} {at} {i} p end =
+  pub putting-all : {m : List ℕ} {i : ℕ} → Putting m i → n ≤ i → Put (row n part) l from xs m
+  putting-all {m} {i} p end =
       let all : i ≡ n = omega arith in
       let long : length xs ≡ n = p .long in
-      subst (λ (k : ℕ). Put (row k part) l from xs m at) all (subst (λ (ys : List A). Put (row i part) l from ys m at) (take-all i xs (omega arith)) (p .done))
+      subst (λ (k : ℕ). Put (row k part) l from xs m) all (subst (λ (ys : List A). Put (row i part) l from ys m) (take-all i xs (omega arith)) (p .done))
 
 -- a row of cells of a known length
-pub put-counted : (n : ℕ) (xs : List ℕ) {l m : List ℕ} {at next : ℕ} → n ≡ length xs → Put (row (length xs) cell) l at xs m next → Put (row n cell) l at xs m next
-put-counted n xs {l} {m} {at} {next} e p = subst (λ (k : ℕ). Put (row k cell) l at xs m next) (sym e) p
+pub put-counted : (n : ℕ) (xs : List ℕ) {l m : List ℕ} {at : ℕ} → n ≡ length xs → Put (row (length xs) cell) l at xs m → Put (row n cell) l at xs m
+put-counted n xs {l} {m} {at} e p = subst (λ (k : ℕ). Put (row k cell) l at xs m) (sym e) p
 
--- the fields of a record, each put where the one before it ends
+-- fields that are put so many bytes after the place, each where the one before it ends
 infixr 5 _then_
-pub data Puts {A : Type 0} (a : A) : List (Field A) → List ℕ → ℕ → List ℕ → ℕ → Type 1 where
-  none : {l : List ℕ} {at : ℕ} → Puts a [] l at l at
-  _then_ : {f : Field A} {fs : List (Field A)} {l m k : List ℕ} {at next end : ℕ}
-      → Put (f .part) l at (f .get a) m next → Puts a fs m next k end → Puts a (f ∷ fs) l at k end
+pub data PutAfter {A : Type 0} (a : A) : List (Field A) → List ℕ → ℕ → ℕ → List ℕ → Type 1 where
+  none : {l : List ℕ} {at n : ℕ} → PutAfter a [] l at n l
+  _then_ : {f : Field A} {fs : List (Field A)} {l m k : List ℕ} {at n : ℕ}
+      → Put (f .part) l (at + n) (f .get a) m → PutAfter a fs m at (n + f .part .width) k → PutAfter a (f ∷ fs) l at n k
 
-pub fields-put : {A : Type 0} (fs : List (Field A)) (a : A) (l : List ℕ) (at : ℕ) (k : List ℕ) (end : ℕ) → Puts a fs l at k end → Put (fields fs) l at a k end
+record AfterPut {A : Type 0} (fs : List (Field A)) (a : A) (l : List ℕ) (at n : ℕ) (k : List ℕ) : Type 0 where
+  fit : FieldsFit fs a
+  bytes-are : take (at + (n + widthOf fs)) k ≡ take (at + n) l ++ fieldBytes fs a
+  as-long : length k ≡ length l
+
+after-put : {A : Type 0} (fs : List (Field A)) (a : A) (l : List ℕ) (at n : ℕ) (k : List ℕ) → PutAfter a fs l at n k → AfterPut fs a l at n k
 unfolding fieldBytes
-fields-put [] a l at k end none = record { fit = tt; next-is = sym (add-zero at); bytes-are = sym (append-nil (take at l)); as-long = refl }
-fields-put (f ∷ fs) a l at k end (_then_ {m = m} {next = next} p ps) =
-    let q : Put (fields fs) m next a k end = fields-put fs a m next k end ps in
-    let here : next ≡ at + f .part .width = p .next-is in
-    let there : end ≡ next + widthOf fs = q .next-is in
+after-put [] a l at n k none =
+    let end : at + (n + 0) ≡ at + n = omega arith in
+    record { fit = tt; bytes-are = ap (λ (j : ℕ). take j l) end ∙ sym (append-nil (take (at + n) l)); as-long = refl }
+after-put (f ∷ fs) a l at n k (_then_ {m = m} p ps) =
+    let q = after-put fs a m at (n + f .part .width) k ps in
+    let next : at + (n + f .part .width) ≡ at + n + f .part .width = omega arith in
+    let end : at + (n + widthOf (f ∷ fs)) ≡ at + (n + f .part .width + widthOf fs) = omega arith in
     record {
       fit = (p .fit, q .fit);
-      next-is = omega arith;
+      bytes-are =
+          ap (λ (j : ℕ). take j k) end
+          ∙ q .bytes-are
+          ∙ ap (λ (t : List ℕ). t ++ fieldBytes fs a) (ap (λ (j : ℕ). take j m) next ∙ p .bytes-are)
+          ∙ append-assoc (take (at + n) l) (f .part .bytes (f .get a)) (fieldBytes fs a);
+      as-long = q .as-long ∙ p .as-long;
+    }
+
+-- the first field at the place itself, the others after it
+infixr 5 _first_
+pub data PutAll {A : Type 0} (a : A) : List (Field A) → List ℕ → ℕ → List ℕ → Type 1 where
+  _first_ : {f : Field A} {fs : List (Field A)} {l m k : List ℕ} {at : ℕ}
+      → Put (f .part) l at (f .get a) m → PutAfter a fs m at (f .part .width) k → PutAll a (f ∷ fs) l at k
+
+pub fields-put : {A : Type 0} (fs : List (Field A)) (a : A) (l : List ℕ) (at : ℕ) (k : List ℕ) → PutAll a fs l at k → Put (fields fs) l at a k
+unfolding fieldBytes
+fields-put (f ∷ fs) a l at k (_first_ {m = m} p ps) =
+    let q = after-put fs a m at (f .part .width) k ps in
+    record {
+      fit = (p .fit, q .fit);
       bytes-are =
           q .bytes-are
           ∙ ap (λ (t : List ℕ). t ++ fieldBytes fs a) (p .bytes-are)
@@ -113,8 +141,7 @@ fields-put (f ∷ fs) a l at k end (_then_ {m = m} {next = next} p ps) =
     }
 
 -- a buffer that is all put
-pub put-whole : {A : Type 0} (part : Part A) (x : A) (l m : List ℕ) {next : ℕ} → length l ≡ part .width → Put part l 0 x m next → Gives part x l (gives tt) m
-put-whole part x l m {next} long p =
-    let end : next ≡ 0 + part .width = p .next-is in
+pub put-whole : {A : Type 0} (part : Part A) (x : A) (l m : List ℕ) → length l ≡ part .width → Put part l 0 x m → Gives part x l (gives tt) m
+put-whole part x l m long p =
     let same : length m ≡ length l = p .as-long in
-    subst (Gives part x l (gives tt)) (sym (p .bytes-are) ∙ take-all next m (omega arith)) (filled long (p .fit))
+    subst (Gives part x l (gives tt)) (sym (p .bytes-are) ∙ take-all (0 + part .width) m (omega arith)) (filled long (p .fit))

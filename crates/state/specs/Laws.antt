@@ -6,3 +6,5 @@ pub mod Sound
 pub mod Spelling
 -- no second answer
 pub mod Only
+-- what fits has the right lengths
+pub mod Whole

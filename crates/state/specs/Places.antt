@@ -10,9 +10,8 @@ pub record Stands {A : Type 0} (part : Part A) (state : List ℕ) (at : ℕ) (x 
   pub fit : part .Fits x
   pub spelled : part .bytes x ≡ take (part .width) (drop at state)
 
--- `Put part before at x after next`: x fits by its type, and its bytes now stand after the bytes before the place, up to the next
-pub record Put {A : Type 0} (part : Part A) (before : List ℕ) (at : ℕ) (x : A) (after : List ℕ) (next : ℕ) : Type 0 where
+-- `Put part before at x after`: x fits by its type, and its bytes stand from the place on, after the bytes before it
+pub record Put {A : Type 0} (part : Part A) (before : List ℕ) (at : ℕ) (x : A) (after : List ℕ) : Type 0 where
   pub fit : part .Fits x
-  pub next-is : next ≡ at + part .width
-  pub bytes-are : take next after ≡ take at before ++ part .bytes x
+  pub bytes-are : take (at + part .width) after ≡ take at before ++ part .bytes x
   pub as-long : length after ≡ length before

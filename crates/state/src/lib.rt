@@ -63,11 +63,11 @@ pub fn give(machine: Machine, state: &mut [u8]) -> Verdict
     }
     let cells = machine.cells;
     let links = machine.links;
-    let after_cells = writing::put_row(state, places::STATE_CELLS, &cells);
-    let after_p = writing::put_pointer(state, after_cells, machine.p);
-    let after_links = writing::put_links(state, after_p, links);
-    let after_counter = writing::put_cell(state, after_links, machine.counter);
-    writing::put_cell(state, after_counter, machine.flag);
+    writing::put_row(state, places::STATE_CELLS, &cells);
+    writing::put_pointer(state, places::STATE_P, machine.p);
+    writing::put_links(state, places::STATE_LINKS, links);
+    writing::put_cell(state, places::STATE_COUNTER, machine.counter);
+    writing::put_cell(state, places::STATE_FLAG, machine.flag);
     Verdict::Good
 }
 
@@ -78,8 +78,8 @@ pub fn give_counts(answer: u32, steps: Steps, cycles: Cycles, result: &mut [u8])
     if result.len() != RESULT {
         return Verdict::Refused(2);
     }
-    let after_answer = writing::put_pointer(result, 0, answer as usize);
-    let after_steps = writing::put_pointer(result, after_answer, steps.0 as usize);
-    writing::put_pointer(result, after_steps, cycles.0 as usize);
+    writing::put_pointer(result, places::RESULT_ANSWER, answer as usize);
+    writing::put_pointer(result, places::RESULT_STEPS, steps.0 as usize);
+    writing::put_pointer(result, places::RESULT_CYCLES, cycles.0 as usize);
     Verdict::Good
 }

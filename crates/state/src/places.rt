@@ -52,4 +52,10 @@ pub(crate) const STATE_FLAG: usize = STATE_COUNTER + CELL;
 pub const SIZE: usize = STATE_FLAG + CELL;
 
 // What a run counted: answer, steps and cycles, each as wide as a pointer.
-pub const RESULT: usize = 3 * POINTER;
+pub(crate) const RESULT_ANSWER: usize = 0;
+
+pub(crate) const RESULT_STEPS: usize = RESULT_ANSWER + POINTER;
+
+pub(crate) const RESULT_CYCLES: usize = RESULT_STEPS + POINTER;
+
+pub const RESULT: usize = RESULT_CYCLES + POINTER;

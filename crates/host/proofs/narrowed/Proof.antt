@@ -4,6 +4,9 @@ use borrow.Author.Needs.{needs}
 use Rattle.host.proofs.narrowed.Statement.{statement}
 use Rattle.host.proofs.narrowed.Tie as tie
 
+cast-if1 : tie.Need-cast-if1
+cast-if1 c = search needs
+
 returns : tie.Need-returns
 returns c = simp (lt-ltb _ _ (c .if1 .taken))
 
@@ -14,4 +17,4 @@ returns-2 : tie.Need-returns-2
 returns-2 c = simp (le-ltb _ _ (c .if1 .left))
 
 pub narrowed-spec : {M : Type 1} → statement M
-narrowed-spec = tie.close (tie.spec returns cast-result returns-2)
+narrowed-spec = tie.close (tie.spec cast-if1 returns cast-result returns-2)

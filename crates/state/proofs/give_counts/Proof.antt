@@ -2,7 +2,7 @@
 use borrow.Author.Needs.{needs}
 use Rattle.state.specs.Layout.{resultFields, result}
 use Rattle.state.specs.Promise.{wrong-size}
-use Rattle.state.proofs.Putting.{none, _then_, fields-put, put-whole}
+use Rattle.state.proofs.Putting.{none, _then_, _first_, fields-put, put-whole}
 use Rattle.state.proofs.give_counts.Statement.{statement}
 use Rattle.state.proofs.give_counts.Tie as tie
 
@@ -29,13 +29,14 @@ same-length c = search needs
 
 returns-2 : tie.Need-returns-2
 returns-2 c =
-    let at₃ = c .before .before in
-    let at₂ = at₃ .before .before .before .before .before in
-    let at₁ = at₂ .before .before .before .before .before in
-    let left = at₁ .before .before in
-    let a = left .before .before .args in
-    put-whole result _ (a .result .now) _ (left .if1 .left)
-    (fields-put resultFields _ (a .result .now) 0 _ _ (at₁ .put-pointer .ensures then at₂ .put-pointer2 .ensures then at₃ .put-pointer3 .ensures then none))
+    let cycles = c .before .before in
+    let steps = cycles .before .before .before .before .before in
+    let answer = steps .before .before .before .before .before in
+    let measured = answer .before .before in
+    let before = measured .before .before .args .result .now in
+    put-whole result _ before _ (measured .if1 .left)
+    (fields-put resultFields _ before 0 _
+    (answer .put-pointer .ensures first steps .put-pointer2 .ensures then cycles .put-pointer3 .ensures then none))
 
 pub give-counts-spec : {M : Type 1} → statement M
 give-counts-spec =

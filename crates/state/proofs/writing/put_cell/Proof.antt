@@ -7,9 +7,6 @@ use Rattle.state.proofs.writing.put_cell.Tie as tie
 write-four-requires : tie.Need-write-four-requires
 write-four-requires c κs = search needs
 
-add-result : tie.Need-add-result
-add-result c = search needs
-
 same-length : tie.Need-same-length
 same-length c = search needs
 
@@ -21,4 +18,4 @@ returns c =
     number-put 4 (a .value) (a .state .now) (a .at) _ (start .pre) (search needs) (write .write-four .ensures)
 
 pub put-cell-spec : {M : Type 1} → statement M
-put-cell-spec = tie.close (tie.spec write-four-requires add-result same-length returns)
+put-cell-spec = tie.close (tie.spec write-four-requires same-length returns)

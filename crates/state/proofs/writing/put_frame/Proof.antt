@@ -5,7 +5,7 @@ use borrow.Author.Needs.{needs}
 use lib.ListN.{length}
 use Rattle.links.specs.Depths.{localsCount}
 use Rattle.state.specs.Layout.{frameFields}
-use Rattle.state.proofs.Putting.{put-counted, none, _then_, fields-put}
+use Rattle.state.proofs.Putting.{put-counted, none, _then_, _first_, fields-put}
 use Rattle.state.proofs.writing.put_frame.Statement.{statement}
 use Rattle.state.proofs.writing.put_frame.Tie as tie
 
@@ -17,34 +17,31 @@ put-row-requires c κs =
     let long : localsCount ≡ length (c .before .before .before .before .args .frame .locals) = slice-aggregate-put-row c in
     omega arith
 
+add-put-pointer : tie.Need-add-put-pointer
+add-put-pointer c = search needs
+
 put-pointer-requires : tie.Need-put-pointer-requires
-put-pointer-requires c κs =
-    let at₁ = c .before .before .before in
-    let start = at₁ .before .before .before .before .before in
-    let long : localsCount ≡ length (start .args .frame .locals) = slice-aggregate-put-row (at₁ .before) in
-    omega (arith, start .pre)
+put-pointer-requires c κs = search needs
+
+add-put-cell : tie.Need-add-put-cell
+add-put-cell c = search needs
 
 put-cell-requires : tie.Need-put-cell-requires
-put-cell-requires c κs =
-    let at₂ = c .before .before .before in
-    let at₁ = at₂ .before .before .before .before in
-    let start = at₁ .before .before .before .before .before in
-    let long : localsCount ≡ length (start .args .frame .locals) = slice-aggregate-put-row (at₁ .before) in
-    omega (arith, start .pre)
+put-cell-requires c κs = search needs
 
 same-length : tie.Need-same-length
 same-length c = search needs
 
 returns : tie.Need-returns
 returns c =
-    let at₃ = c .before .before in
-    let at₂ = at₃ .before .before .before .before in
-    let at₁ = at₂ .before .before .before .before in
-    let start = at₁ .before .before .before .before .before in
-    fields-put frameFields (start .args .frame) (start .args .state .now) (start .args .at) _ _
-    (put-counted localsCount (start .args .frame .locals) (slice-aggregate-put-row (at₁ .before)) (at₁ .put-row .ensures)
-    then at₂ .put-pointer .ensures
-    then at₃ .put-cell .ensures
+    let address = c .before .before in
+    let r = address .before .before .before .before in
+    let locals = r .before .before .before .before in
+    let a = locals .before .before .before .before .before .args in
+    fields-put frameFields (a .frame) (a .state .now) (a .at) _
+    (put-counted localsCount (a .frame .locals) (slice-aggregate-put-row (locals .before)) (locals .put-row .ensures)
+    first r .put-pointer .ensures
+    then address .put-cell .ensures
     then none)
 
 pub put-frame-spec : {M : Type 1} → statement M
@@ -53,7 +50,9 @@ put-frame-spec =
     (tie.spec
     slice-aggregate-put-row
     put-row-requires
+    add-put-pointer
     put-pointer-requires
+    add-put-cell
     put-cell-requires
     same-length
     returns)

@@ -9,10 +9,10 @@ use Rattle.state.proofs.writing.put_frames.Statement.{statement}
 use Rattle.state.proofs.writing.put_frames.Tie as tie
 
 abbrev Inv-loop : tie.InvT-loop
-Inv-loop state₀ from frames at₀ i₀ state at i = Putting frame state₀ from framesCount frames state at i
+Inv-loop state₀ from frames i₀ state i = Putting frame state₀ from framesCount frames state i
 
 abbrev μ-loop : tie.MeasureT-loop
-μ-loop state₀ from frames at₀ i₀ state at i = framesCount - i
+μ-loop state₀ from frames i₀ state i = framesCount - i
 
 loop-holds : tie.Need-loop-holds Inv-loop μ-loop
 loop-holds c =
@@ -25,6 +25,12 @@ mul-frame c = omega arith
 array-copy-out-frame : tie.Need-array-copy-out-frame Inv-loop μ-loop
 array-copy-out-frame c = omega arith
 
+mul-put-frame : tie.Need-mul-put-frame Inv-loop μ-loop
+mul-put-frame c = omega arith
+
+add-put-frame : tie.Need-add-put-frame Inv-loop μ-loop
+add-put-frame c = omega arith
+
 put-frame-requires : tie.Need-put-frame-requires Inv-loop μ-loop
 put-frame-requires c κs = omega arith
 
@@ -36,9 +42,10 @@ loop-less c = omega arith
 
 loop-again : tie.Need-loop-again Inv-loop μ-loop
 loop-again c =
-    let here = c .before .before .before .before .before .before in
+    let put = c .before .before in
+    let here = put .before .before .before .before in
     let a = here .before .before .args in
-    putting-more frame (a .state .now) (a .from) framesCount (a .t3) (here .loop .inv) (omega arith) noFrame (c .before .before .put-frame .ensures)
+    putting-more frame (a .state .now) (a .from) framesCount (a .t3) (here .loop .inv) (omega arith) noFrame (put .put-frame .ensures)
 
 same-length : tie.Need-same-length Inv-loop μ-loop
 same-length c = c .before .loop .inv .done .as-long
@@ -57,6 +64,8 @@ put-frames-spec =
     loop-holds
     mul-frame
     array-copy-out-frame
+    mul-put-frame
+    add-put-frame
     put-frame-requires
     add-i
     loop-less

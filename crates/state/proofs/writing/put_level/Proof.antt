@@ -5,7 +5,7 @@ use borrow.Author.Needs.{needs}
 use lib.ListN.{length}
 use Rattle.links.specs.Depths.{levelCells}
 use Rattle.state.specs.Layout.{levelFields}
-use Rattle.state.proofs.Putting.{put-counted, none, _then_, fields-put}
+use Rattle.state.proofs.Putting.{put-counted, none, _then_, _first_, fields-put}
 use Rattle.state.proofs.writing.put_level.Statement.{statement}
 use Rattle.state.proofs.writing.put_level.Tie as tie
 
@@ -17,45 +17,39 @@ put-row-requires c κs =
     let long : levelCells ≡ length (c .before .before .before .before .args .level .cells) = slice-aggregate-put-row c in
     omega arith
 
+add-put-pointer : tie.Need-add-put-pointer
+add-put-pointer c = search needs
+
 put-pointer-requires : tie.Need-put-pointer-requires
-put-pointer-requires c κs =
-    let at₁ = c .before .before .before in
-    let start = at₁ .before .before .before .before .before in
-    let long : levelCells ≡ length (start .args .level .cells) = slice-aggregate-put-row (at₁ .before) in
-    omega (arith, start .pre)
+put-pointer-requires c κs = search needs
+
+add-put-pointer-2 : tie.Need-add-put-pointer-2
+add-put-pointer-2 c = search needs
 
 put-pointer-requires-2 : tie.Need-put-pointer-requires-2
-put-pointer-requires-2 c κs =
-    let at₂ = c .before .before .before in
-    let at₁ = at₂ .before .before .before .before in
-    let start = at₁ .before .before .before .before .before in
-    let long : levelCells ≡ length (start .args .level .cells) = slice-aggregate-put-row (at₁ .before) in
-    omega (arith, start .pre)
+put-pointer-requires-2 c κs = search needs
+
+add-put-cell : tie.Need-add-put-cell
+add-put-cell c = search needs
 
 put-cell-requires : tie.Need-put-cell-requires
-put-cell-requires c κs =
-    let at₃ = c .before .before .before in
-    let at₂ = at₃ .before .before .before .before in
-    let at₁ = at₂ .before .before .before .before in
-    let start = at₁ .before .before .before .before .before in
-    let long : levelCells ≡ length (start .args .level .cells) = slice-aggregate-put-row (at₁ .before) in
-    omega (arith, start .pre)
+put-cell-requires c κs = search needs
 
 same-length : tie.Need-same-length
 same-length c = search needs
 
 returns : tie.Need-returns
 returns c =
-    let at₄ = c .before .before in
-    let at₃ = at₄ .before .before .before .before in
-    let at₂ = at₃ .before .before .before .before in
-    let at₁ = at₂ .before .before .before .before in
-    let start = at₁ .before .before .before .before .before in
-    fields-put levelFields (start .args .level) (start .args .state .now) (start .args .at) _ _
-    (put-counted levelCells (start .args .level .cells) (slice-aggregate-put-row (at₁ .before)) (at₁ .put-row .ensures)
-    then at₂ .put-pointer .ensures
-    then at₃ .put-pointer2 .ensures
-    then at₄ .put-cell .ensures
+    let address = c .before .before in
+    let p = address .before .before .before .before in
+    let s = p .before .before .before .before in
+    let cells = s .before .before .before .before in
+    let a = cells .before .before .before .before .before .args in
+    fields-put levelFields (a .level) (a .state .now) (a .at) _
+    (put-counted levelCells (a .level .cells) (slice-aggregate-put-row (cells .before)) (cells .put-row .ensures)
+    first s .put-pointer .ensures
+    then p .put-pointer2 .ensures
+    then address .put-cell .ensures
     then none)
 
 pub put-level-spec : {M : Type 1} → statement M
@@ -64,8 +58,11 @@ put-level-spec =
     (tie.spec
     slice-aggregate-put-row
     put-row-requires
+    add-put-pointer
     put-pointer-requires
+    add-put-pointer-2
     put-pointer-requires-2
+    add-put-cell
     put-cell-requires
     same-length
     returns)

@@ -9,10 +9,10 @@ use Rattle.state.proofs.writing.put_levels.Statement.{statement}
 use Rattle.state.proofs.writing.put_levels.Tie as tie
 
 abbrev Inv-loop : tie.InvT-loop
-Inv-loop state₀ from levels at₀ i₀ state at i = Putting level state₀ from levelsCount levels state at i
+Inv-loop state₀ from levels i₀ state i = Putting level state₀ from levelsCount levels state i
 
 abbrev μ-loop : tie.MeasureT-loop
-μ-loop state₀ from levels at₀ i₀ state at i = levelsCount - i
+μ-loop state₀ from levels i₀ state i = levelsCount - i
 
 loop-holds : tie.Need-loop-holds Inv-loop μ-loop
 loop-holds c =
@@ -25,6 +25,12 @@ mul-level c = omega arith
 array-copy-out-level : tie.Need-array-copy-out-level Inv-loop μ-loop
 array-copy-out-level c = omega arith
 
+mul-put-level : tie.Need-mul-put-level Inv-loop μ-loop
+mul-put-level c = omega arith
+
+add-put-level : tie.Need-add-put-level Inv-loop μ-loop
+add-put-level c = omega arith
+
 put-level-requires : tie.Need-put-level-requires Inv-loop μ-loop
 put-level-requires c κs = omega arith
 
@@ -36,9 +42,10 @@ loop-less c = omega arith
 
 loop-again : tie.Need-loop-again Inv-loop μ-loop
 loop-again c =
-    let here = c .before .before .before .before .before .before in
+    let put = c .before .before in
+    let here = put .before .before .before .before in
     let a = here .before .before .args in
-    putting-more level (a .state .now) (a .from) levelsCount (a .t3) (here .loop .inv) (omega arith) noLevel (c .before .before .put-level .ensures)
+    putting-more level (a .state .now) (a .from) levelsCount (a .t3) (here .loop .inv) (omega arith) noLevel (put .put-level .ensures)
 
 same-length : tie.Need-same-length Inv-loop μ-loop
 same-length c = c .before .loop .inv .done .as-long
@@ -57,6 +64,8 @@ put-levels-spec =
     loop-holds
     mul-level
     array-copy-out-level
+    mul-put-level
+    add-put-level
     put-level-requires
     add-i
     loop-less

@@ -5,7 +5,7 @@ use borrow.Author.Needs.{needs}
 use lib.ListN.{length}
 use Rattle.links.specs.Depths.{returnsDepth}
 use Rattle.state.specs.Layout.{linksFields}
-use Rattle.state.proofs.Putting.{put-counted, none, _then_, fields-put}
+use Rattle.state.proofs.Putting.{put-counted, none, _then_, _first_, fields-put}
 use Rattle.state.proofs.writing.put_links.Statement.{statement}
 use Rattle.state.proofs.writing.put_links.Tie as tie
 
@@ -17,70 +17,55 @@ put-row-requires c κs =
     let long : returnsDepth ≡ length (c .before .before .before .before .before .before .args .links .returns) = slice-aggregate-put-row c in
     omega arith
 
+add-put-pointer : tie.Need-add-put-pointer
+add-put-pointer c = search needs
+
 put-pointer-requires : tie.Need-put-pointer-requires
-put-pointer-requires c κs =
-    let at₁ = c .before .before .before in
-    let start = at₁ .before .before .before .before .before .before .before in
-    let long : returnsDepth ≡ length (start .args .links .returns) = slice-aggregate-put-row (at₁ .before) in
-    omega (arith, start .pre)
+put-pointer-requires c κs = search needs
+
+add-put-frames : tie.Need-add-put-frames
+add-put-frames c = search needs
 
 put-frames-requires : tie.Need-put-frames-requires
-put-frames-requires c κs =
-    let at₂ = c .before .before .before in
-    let at₁ = at₂ .before .before .before .before in
-    let start = at₁ .before .before .before .before .before .before .before in
-    let long : returnsDepth ≡ length (start .args .links .returns) = slice-aggregate-put-row (at₁ .before) in
-    omega (arith, start .pre)
+put-frames-requires c κs = search needs
+
+add-put-pointer-2 : tie.Need-add-put-pointer-2
+add-put-pointer-2 c = search needs
 
 put-pointer-requires-2 : tie.Need-put-pointer-requires-2
-put-pointer-requires-2 c κs =
-    let at₃ = c .before .before .before in
-    let at₂ = at₃ .before .before .before .before in
-    let at₁ = at₂ .before .before .before .before in
-    let start = at₁ .before .before .before .before .before .before .before in
-    let long : returnsDepth ≡ length (start .args .links .returns) = slice-aggregate-put-row (at₁ .before) in
-    omega (arith, start .pre)
+put-pointer-requires-2 c κs = search needs
+
+add-put-levels : tie.Need-add-put-levels
+add-put-levels c = search needs
 
 put-levels-requires : tie.Need-put-levels-requires
-put-levels-requires c κs =
-    let at₄ = c .before .before .before in
-    let at₃ = at₄ .before .before .before .before in
-    let at₂ = at₃ .before .before .before .before in
-    let at₁ = at₂ .before .before .before .before in
-    let start = at₁ .before .before .before .before .before .before .before in
-    let long : returnsDepth ≡ length (start .args .links .returns) = slice-aggregate-put-row (at₁ .before) in
-    omega (arith, start .pre)
+put-levels-requires c κs = search needs
+
+add-put-pointer-3 : tie.Need-add-put-pointer-3
+add-put-pointer-3 c = search needs
 
 put-pointer-requires-3 : tie.Need-put-pointer-requires-3
-put-pointer-requires-3 c κs =
-    let at₅ = c .before .before .before in
-    let at₄ = at₅ .before .before .before .before in
-    let at₃ = at₄ .before .before .before .before in
-    let at₂ = at₃ .before .before .before .before in
-    let at₁ = at₂ .before .before .before .before in
-    let start = at₁ .before .before .before .before .before .before .before in
-    let long : returnsDepth ≡ length (start .args .links .returns) = slice-aggregate-put-row (at₁ .before) in
-    omega (arith, start .pre)
+put-pointer-requires-3 c κs = search needs
 
 same-length : tie.Need-same-length
 same-length c = search needs
 
 returns : tie.Need-returns
 returns c =
-    let at₆ = c .before .before in
-    let at₅ = at₆ .before .before .before .before in
-    let at₄ = at₅ .before .before .before .before in
-    let at₃ = at₄ .before .before .before .before in
-    let at₂ = at₃ .before .before .before .before in
-    let at₁ = at₂ .before .before .before .before in
-    let start = at₁ .before .before .before .before .before .before .before in
-    fields-put linksFields (start .args .links) (start .args .state .now) (start .args .at) _ _
-    (put-counted returnsDepth (start .args .links .returns) (slice-aggregate-put-row (at₁ .before)) (at₁ .put-row .ensures)
-    then at₂ .put-pointer .ensures
-    then at₃ .put-frames .ensures
-    then at₄ .put-pointer2 .ensures
-    then at₅ .put-levels .ensures
-    then at₆ .put-pointer3 .ensures
+    let e = c .before .before in
+    let levels = e .before .before .before .before in
+    let s = levels .before .before .before .before in
+    let frames = s .before .before .before .before in
+    let r = frames .before .before .before .before in
+    let returns = r .before .before .before .before in
+    let a = returns .before .before .before .before .before .before .before .args in
+    fields-put linksFields (a .links) (a .state .now) (a .at) _
+    (put-counted returnsDepth (a .links .returns) (slice-aggregate-put-row (returns .before)) (returns .put-row .ensures)
+    first r .put-pointer .ensures
+    then frames .put-frames .ensures
+    then s .put-pointer2 .ensures
+    then levels .put-levels .ensures
+    then e .put-pointer3 .ensures
     then none)
 
 pub put-links-spec : {M : Type 1} → statement M
@@ -89,10 +74,15 @@ put-links-spec =
     (tie.spec
     slice-aggregate-put-row
     put-row-requires
+    add-put-pointer
     put-pointer-requires
+    add-put-frames
     put-frames-requires
+    add-put-pointer-2
     put-pointer-requires-2
+    add-put-levels
     put-levels-requires
+    add-put-pointer-3
     put-pointer-requires-3
     same-length
     returns)

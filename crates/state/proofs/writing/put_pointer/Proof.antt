@@ -7,9 +7,6 @@ use Rattle.state.proofs.writing.put_pointer.Tie as tie
 write-eight-requires : tie.Need-write-eight-requires
 write-eight-requires c κs = search needs
 
-add-result : tie.Need-add-result
-add-result c = search needs
-
 same-length : tie.Need-same-length
 same-length c = search needs
 
@@ -21,4 +18,4 @@ returns c =
     number-put 8 (a .value) (a .state .now) (a .at) _ (start .pre) (search needs) (write .write-eight .ensures)
 
 pub put-pointer-spec : {M : Type 1} → statement M
-put-pointer-spec = tie.close (tie.spec write-eight-requires add-result same-length returns)
+put-pointer-spec = tie.close (tie.spec write-eight-requires same-length returns)

@@ -9,10 +9,10 @@ use Rattle.state.proofs.writing.put_row.Statement.{statement}
 use Rattle.state.proofs.writing.put_row.Tie as tie
 
 abbrev Inv-loop : tie.InvT-loop
-Inv-loop state₀ from cells at₀ i₀ state at i = Putting cell state₀ from (length cells) cells state at i
+Inv-loop state₀ from cells i₀ state i = Putting cell state₀ from (length cells) cells state i
 
 abbrev μ-loop : tie.MeasureT-loop
-μ-loop state₀ from cells at₀ i₀ state at i = length cells - i
+μ-loop state₀ from cells i₀ state i = length cells - i
 
 loop-holds : tie.Need-loop-holds Inv-loop μ-loop
 loop-holds c =
@@ -21,6 +21,12 @@ loop-holds c =
 
 mul-put-cell : tie.Need-mul-put-cell Inv-loop μ-loop
 mul-put-cell c = omega arith
+
+add-put-cell : tie.Need-add-put-cell Inv-loop μ-loop
+add-put-cell c = omega arith
+
+mul-put-cell-2 : tie.Need-mul-put-cell-2 Inv-loop μ-loop
+mul-put-cell-2 c = omega arith
 
 shared-slice-read-put-cell : tie.Need-shared-slice-read-put-cell Inv-loop μ-loop
 shared-slice-read-put-cell c = omega arith
@@ -36,9 +42,10 @@ loop-less c = omega arith
 
 loop-again : tie.Need-loop-again Inv-loop μ-loop
 loop-again c =
-    let here = c .before .before .before .before .before .before in
+    let put = c .before .before in
+    let here = put .before .before .before .before in
     let a = here .before .before .before .args in
-    putting-more cell (a .state .now) (a .from) (length (a .cells .now)) (a .cells .now) (here .loop .inv) (omega arith) 0 (c .before .before .put-cell .ensures)
+    putting-more cell (a .state .now) (a .from) (length (a .cells .now)) (a .cells .now) (here .loop .inv) (omega arith) 0 (put .put-cell .ensures)
 
 same-length : tie.Need-same-length Inv-loop μ-loop
 same-length c = c .before .loop .inv .done .as-long
@@ -56,6 +63,8 @@ put-row-spec =
     μ-loop
     loop-holds
     mul-put-cell
+    add-put-cell
+    mul-put-cell-2
     shared-slice-read-put-cell
     put-cell-requires
     add-i

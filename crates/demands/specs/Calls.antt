@@ -1,0 +1,60 @@
+-- Calls of the exported run on the same state bytes, one after another: what a host does that holds a machine as bytes.
+use mathlib.Core.List.{List}
+use mathlib.Core.Path.{_≡_}
+use Prim.Native.Nat.{ℕ, _+_, _≤_}
+use Rattle.machine.specs.Step.{done, stepOf}
+use Rattle.machine.specs.Run.{runOf}
+use Rattle.machine.specs.declared.Machine.{Machine}
+use Rattle.state.specs.Layout as layout
+use Rattle.host.specs.Handed.{Handed, Hands, wrong-length, run, handedBack}
+use Rattle.demands.specs.History.{World, codeAt, pointerE, Moment, step, History, then, joined, stepsIn, cyclesIn, Above}
+
+-- the bytes of a state carry a machine
+pub record Carries (state : List ℕ) (m : Machine) : Type 0 where
+  pub fit : layout.state .Fits m
+  pub spelled : layout.state .bytes m ≡ state
+
+-- a call ran the machine, and the bytes that it handed back carry the machine that the run left
+pub record Called (memory : List ℕ) (budget : ℕ) (m : Machine) (handed : Handed) : Type 0 where
+  pub as-run : handed ≡ handedBack (runOf memory m budget)
+  pub carried : Carries (handed .state) (runOf memory m budget .ran .machine)
+
+-- each call meets the exported function's promise; the host hands the state's bytes on unaltered, with any memory, any budget and
+-- any buffer for the counts
+pub data Calls : List ℕ → List ℕ → Type 0 where
+  over : {state : List ℕ} → Calls state state
+  call : {state end : List ℕ} {handed : Handed} (memory : List ℕ) (budget : ℕ) (result : List ℕ) → Hands state memory budget result handed
+      → Calls (handed .state) end → Calls state end
+
+-- the steps and the cycles that the calls report, added up; a call with a buffer of another length runs nothing
+abbrev pub stepsOf : {state end : List ℕ} → Calls state end → ℕ
+stepsOf over = 0
+stepsOf (call memory budget result (wrong-length other) rest) = stepsOf rest
+stepsOf (call memory budget result (run m all long fits is kept) rest) = runOf memory m budget .ran .steps .0 + stepsOf rest
+
+abbrev pub cyclesOf : {state end : List ℕ} → Calls state end → ℕ
+cyclesOf over = 0
+cyclesOf (call memory budget result (wrong-length other) rest) = cyclesOf rest
+cyclesOf (call memory budget result (run m all long fits is kept) rest) = runOf memory m budget .ran .cycles .0 + cyclesOf rest
+
+-- one history from w to a machine that the last bytes carry, with as many steps and cycles as the calls report
+pub record OneHistory {state end : List ℕ} (calls : Calls state end) (w : World) : Type 0 where
+  pub last : World
+  pub carried : Carries end (last .machine)
+  pub history : History w last
+  pub steps : stepsIn history ≡ stepsOf calls
+  pub cycles : cyclesIn history ≡ cyclesOf calls
+
+-- a history comes to a CATCH at o that is carried out and leads to w, goes on to v with E above the old E, and then comes to z by
+-- the moment that brings E down
+pub record Loses {a b : World} (history : History a b) (o w v z : World) : Type 0 where
+  pub before : History a o
+  pub catches : codeAt o ≡ 0x0B
+  pub cost : ℕ
+  pub carried : stepOf (o .memory) (o .machine) ≡ done (w .memory) (w .machine) cost
+  pub between : History w v
+  pub above : Above (pointerE o) between
+  pub last : Moment v z
+  pub down : pointerE z ≤ pointerE o
+  pub after : History z b
+  pub whole : history ≡ joined before (then (step cost carried) (joined between (then last after)))

@@ -1,0 +1,85 @@
+-- Demand 3 for hosts that hold a machine as bytes: any number of calls on the same bytes is one history.
+use mathlib.Core.Bool.{Bool, true, false}
+use mathlib.Core.List.{List}
+use mathlib.Core.Logic.{_⊎_}
+use mathlib.Core.Path.{_≡_, refl, sym, ap, _∙_, subst}
+use Prim.Native.Nat.{ℕ, _+_}
+use native.Mathlib.Omega.{arith}
+use lib.ListN.{length}
+use Rattle.machine.specs.Run.{After, ended, runFrom, runOf, acceptable}
+use Rattle.machine.specs.declared.Machine.{Machine}
+use Rattle.state.specs.Layout as layout
+use Rattle.state.specs.Laws.Spelling.{state-sound}
+use Rattle.state.specs.Laws.Whole.{fits-whole}
+use Rattle.host.specs.Handed.{Handed, Hands, wrong-length, run, handedBack}
+use Rattle.demands.specs.History.{World, world, left, host, History, here, then, joined, stepsIn, cyclesIn, Resets}
+use Rattle.demands.specs.Back.{Back}
+use Rattle.demands.specs.Calls.{Carries, Called, Calls, over, call, OneHistory, Loses}
+use Rattle.demands.specs.Laws.Course.{course}
+use Rattle.demands.specs.Laws.Joined.{steps-joined, cycles-joined}
+use Rattle.demands.specs.Theorems.Three.{three}
+
+-- no two machines are carried by the same bytes
+one-machine : (state : List ℕ) (m n : Machine) → Carries state m → Carries state n → m ≡ n
+one-machine state m n a b = state-sound .only m n (a .fit) (b .fit) (a .spelled ∙ sym (b .spelled))
+
+-- A call runs the machine that the bytes carry, and hands back bytes that carry the machine that the run leaves.
+pub called : (state memory : List ℕ) (budget : ℕ) (result : List ℕ) (handed : Handed) (m : Machine) → Carries state m → length result ≡ layout.result .width
+    → Hands state memory budget result handed → Called memory budget m handed
+called state memory budget result handed m carries long (wrong-length h) =
+    absurd (h (ap length (sym (carries .spelled)) ∙ state-sound .long m (carries .fit), long))
+called state memory budget result handed m carries long (run n all also fit is kept) =
+    subst (λ (x : Machine). Called memory budget x handed) (one-machine state n m (record { fit = fit; spelled = is }) carries)
+    (record { as-run = refl; carried = record { fit = kept; spelled = refl } })
+
+-- So the next call takes the very machine that was left: two calls are the two runs, one after the other.
+pub called-again : (state memory later : List ℕ) (budget again : ℕ) (result other : List ℕ) (handed back : Handed) (m : Machine) → Carries state m
+    → length result ≡ layout.result .width → length other ≡ layout.result .width
+    → Hands state memory budget result handed → Hands (handed .state) later again other back
+    → Called later again (runOf memory m budget .ran .machine) back
+called-again state memory later budget again result other handed back m carries long also first second =
+    called (handed .state) later again other back (runOf memory m budget .ran .machine) (called state memory budget result handed m carries long first .carried) also second
+
+-- a whole run as a history: its steps and cycles are those that it reports
+record Ran (memory : List ℕ) (m : Machine) (a : After) : Type 0 where
+  history : History (world memory m) (left a)
+  steps : stepsIn history ≡ a .ran .steps .0
+  cycles : cyclesIn history ≡ a .ran .cycles .0
+
+ran : (memory : List ℕ) (m : Machine) (budget : ℕ) → Ran memory m (runOf memory m budget)
+unfolding runOf
+ran memory m budget = go (acceptable memory m budget)
+  where
+    go : (b : Bool) → Ran memory m (elim b as (λ x. After) [ true ↦ runFrom budget memory m 0 0 | false ↦ ended 2 memory m 0 0 ])
+    go true =
+        let c = course budget memory m 0 0 in
+        record { history = c .history; steps = omega (arith, c .steps); cycles = omega (arith, c .cycles) }
+    go false = record { history = here; steps = refl; cycles = refl }
+
+-- Any number of calls is one history, from the machine that the first bytes carry to the machine that the last ones carry: it carries
+-- out as many instructions as the calls report, in as many cycles.
+pub one-history : {state end : List ℕ} (calls : Calls state end) (w : World) → Carries state (w .machine) → OneHistory calls w
+one-history over w carries = record { last = w; carried = carries; history = here; steps = refl; cycles = refl }
+one-history (call memory budget result (wrong-length other) rest) w carries =
+    let later = one-history rest w carries in
+    record { last = later .last; carried = later .carried; history = later .history; steps = later .steps; cycles = later .cycles }
+one-history (call {state = state} memory budget result (run m all long fits is kept) rest) w carries =
+    let same : m ≡ w .machine = one-machine state m (w .machine) (record { fit = fits; spelled = is }) carries in
+    let now = ran memory m budget in
+    let later = one-history rest (left (runOf memory m budget)) (record { fit = kept; spelled = refl }) in
+    record {
+      last = later .last;
+      carried = later .carried;
+      history = then (host same) (joined (now .history) (later .history));
+      steps = omega (arith, steps-joined (now .history) (later .history), now .steps, later .steps);
+      cycles = omega (arith, cycles-joined (now .history) (later .history), now .cycles, later .cycles);
+    }
+
+-- From bytes that carry a machine that a run accepts, through any number of calls, with any memory from the host between them:
+-- where the history of the calls loses the exception level of a CATCH, that was a RESETSP, or the machine is back.
+pub three-by-calls : {state end : List ℕ} (calls : Calls state end) (a : World) (carries : Carries state (a .machine)) (budget : ℕ)
+    → acceptable (a .memory) (a .machine) budget ≡ true → {o w v z : World} (l : Loses (one-history calls a carries .history) o w v z)
+    → Resets (l .last) ⊎ Back o v z
+three-by-calls calls a carries budget accepted l =
+    three (record { whole = fits-whole (a .machine) (carries .fit); budget = budget; accepted = accepted })
+    (l .before) (l .catches) (l .cost) (l .carried) (l .between) (l .above) (l .last) (l .down)
