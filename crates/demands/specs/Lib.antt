@@ -12,9 +12,13 @@ pub mod Sessions
 pub mod Back
 -- so many steps ahead
 pub mod Walk
+-- who touches the extend flag
+pub mod Flag
 -- three starred lines of the bench sheet, taken apart
 pub mod Cases
 -- an image for demand 3 over two runs
 pub mod Worked
+-- what the reader of images leaves
+pub mod Images
 pub mod Laws
 pub mod Theorems

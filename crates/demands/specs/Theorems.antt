@@ -16,5 +16,7 @@ pub mod Carried
 pub mod Cases
 -- demand 3 over two runs with the host between
 pub mod Worked
+-- nothing else touches the flag
+pub mod Flag
 -- no second answer
 pub mod Only

@@ -14,8 +14,12 @@ pub mod Stands
 pub mod Dropped
 -- a CATCH makes it stand, and one more action leaves it standing or takes it away
 pub mod Standing
+-- dropping a level moves only its pointer
+pub mod Contents
 -- what a call and a CATCH make, field by field
 pub mod Called
+-- an action leaves links that fit
+pub mod Carries
 -- fresh links are sound
 pub mod Fresh
 -- no second answer

@@ -8,6 +8,8 @@ pub mod Actions
 pub mod Allowed
 -- links whose every number is zero
 pub mod Fresh
--- when links are what they were
+-- when links are what they were, and the actions that drop levels
 pub mod Restored
+-- what links that exist can hold
+pub mod Fits
 pub mod Laws

@@ -12,6 +12,8 @@ use Rattle.numbers.specs.declared.Found.{Found}
 use Rattle.numbers.specs.declared.Found.the-variants.{Number, Outside}
 use Rattle.numbers.specs.declared.FoundEight.{FoundEight}
 use Rattle.numbers.specs.declared.FoundEight.the-variants as eight
+use Rattle.numbers.specs.declared.Put.{Put}
+use Rattle.numbers.specs.declared.Put.the-variants.{Until, NoRoom}
 use Rattle.numbers.specs.declared.Written.{Written}
 use Rattle.numbers.specs.declared.Written.the-variants as writing
 
@@ -49,3 +51,20 @@ writeAt n v bytes a =
     pick (inside n bytes a)
     (record { said = gives tt; bytes = sets bytes a (bytesOf n v) })
     (record { said = refuses tooShort; bytes = bytes })
+
+-- characters end before a place
+abbrev pub saysPut : Put → Answer ℕ
+saysPut (Until end) = gives end
+saysPut NoRoom = refuses tooShort
+
+-- what putting characters answers and what the slice then holds
+pub record Spelled : Type 0 where
+  pub said : Answer ℕ
+  pub text : List ℕ
+
+-- characters put at a place, or nothing touched
+unfoldable pub putAt : List ℕ → List ℕ → ℕ → Spelled
+putAt characters text a =
+    pick (inside (length characters) text a)
+    (record { said = gives (a + length characters); text = sets text a characters })
+    (record { said = refuses tooShort; text = text })

@@ -1,9 +1,13 @@
-// Numbers as bytes, the highest byte first: made of bytes, read and written in a slice of any length.
+// Numbers as bytes, the highest byte first, and as digits: made of bytes, read and written in a slice of any length.
+mod digits;
 mod joining;
 mod places;
 mod reading;
 mod writing;
 
+pub use digits::MOST_DECIMAL;
+pub use digits::write_decimal;
+pub use digits::write_hexadecimal;
 pub use joining::eight_bytes;
 pub use joining::four_bytes;
 pub use joining::low_byte;
@@ -35,4 +39,10 @@ pub enum FoundEight {
 pub enum Written {
     Done,
     Outside,
+}
+
+// Where the characters put end, or that the slice has no room for them: then nothing is touched.
+pub enum Put {
+    Until(usize),
+    NoRoom,
 }

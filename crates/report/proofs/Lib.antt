@@ -1,2 +1,3 @@
-pub mod Putting
+pub mod Ending
 pub mod Growing
+pub mod Printing

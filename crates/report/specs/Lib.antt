@@ -1,4 +1,4 @@
 pub mod Text
+pub mod Sizes
 pub mod Printing
-pub mod Put
 pub mod Laws

@@ -1,13 +1,14 @@
 // The bench program's text, as bytes in a lent buffer.
-mod digits;
 mod lines;
+mod sizes;
 
 use machine::Machine;
 use machine::Ran;
+pub use sizes::LONGEST;
 ghost use mathlib.Core.Path.{_≡_};
 ghost use Prim.Native.Nat.{_≤_};
 ghost use lib.ListN.{length, take};
-ghost use Rattle.report.specs.Printing.{printedIn, reportOf, refusalOf};
+ghost use Rattle.report.specs.Printing.{saysPrinted, printedIn, reportOf, refusalOf};
 
 // How many bytes were written, or the answer number of a call that wrote none.
 pub enum Printed {
@@ -18,22 +19,17 @@ pub enum Printed {
 // Copies the first bytes of a text to a buffer that has room for them.
 fn print(text: &[u8], count: usize, out: &mut [u8]) -> Printed
     requires { ⌜ count ≤ length (now text) ⌝ }
-    ensures { λ r. ⌜ record { printed = r; out = now (out .exit) } ≡ printedIn (take count (now (text .entry))) (now (out .entry)) ⌝ }
+    ensures { λ r. ⌜ record { printed = saysPrinted r; out = now (out .exit) } ≡ printedIn (take count (now (text .entry))) (now (out .entry)) ⌝ }
 {
     if out.len() < count {
         return Printed::Refused(2);
     }
-    let mut i = 0;
-    while i < count {
-        out[i] = text[i];
-        i += 1;
-    }
-    Printed::Text(count)
+    Printed::Text(bytes::copy(&text[..count], out))
 }
 
 // The text of a run. It is made aside first, so that a buffer too short for it stays untouched.
 pub fn report(ran: Ran, out: &mut [u8]) -> Printed
-    ensures { λ r. ⌜ record { printed = r; out = now (out .exit) } ≡ reportOf ran (now (out .entry)) ⌝ }
+    ensures { λ r. ⌜ record { printed = saysPrinted r; out = now (out .exit) } ≡ reportOf ran (now (out .entry)) ⌝ }
 {
     let machine = ran.machine;
     let p = machine.p;
@@ -44,17 +40,17 @@ pub fn report(ran: Ran, out: &mut [u8]) -> Printed
     let cycles = ran.cycles;
     let links = machine.links;
     let numbers = [
-        ran.answer as usize,
-        steps.0 as usize,
-        cycles.0 as usize,
-        machine.counter as usize,
-        p,
-        links.r,
-        links.s,
-        links.e,
+        ran.answer as u64,
+        steps.0 as u64,
+        cycles.0 as u64,
+        machine.counter as u64,
+        p as u64,
+        links.r as u64,
+        links.s as u64,
+        links.e as u64,
     ];
     let cells = machine.cells;
-    let mut text = [0u8; 768];
+    let mut text = [0u8; LONGEST];
     let first = lines::put_line(&mut text, numbers);
     let end = lines::put_cells(&mut text, first, cells, p);
     print(&text, end, out)
@@ -62,9 +58,9 @@ pub fn report(ran: Ran, out: &mut [u8]) -> Printed
 
 // The text of a refused image.
 pub fn refusal(number: u32, out: &mut [u8]) -> Printed
-    ensures { λ r. ⌜ record { printed = r; out = now (out .exit) } ≡ refusalOf number (now (out .entry)) ⌝ }
+    ensures { λ r. ⌜ record { printed = saysPrinted r; out = now (out .exit) } ≡ refusalOf number (now (out .entry)) ⌝ }
 {
-    let mut text = [0u8; 32];
-    let end = digits::put_field(&mut text, 0, number as usize, 0x0A);
+    let mut text = [0u8; sizes::FIELD];
+    let end = lines::put_field(&mut text, 0, number as u64, 0x0A);
     print(&text, end, out)
 }

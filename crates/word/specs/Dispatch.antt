@@ -1,5 +1,4 @@
 -- The operations by name: what each leaves of its cells and the flag.
--- Assumes nothing.
 use Prim.Native.Nat.{ℕ}
 use Rattle.word.specs.Sums.{plusOf, minusOf, negateOf, incrementOf, decrementOf, addExtendedOf, subtractExtendedOf}
 use Rattle.word.specs.Compare.{equalOf, unequalOf, lessOf, greaterOf, belowOf, aboveOf, zeroEqualOf, zeroUnequalOf, zeroLessOf, zeroGreaterOf}

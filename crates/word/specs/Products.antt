@@ -1,5 +1,4 @@
 -- Products of 64 bits: the low word under, the high word on top; the flag stays as it came.
--- Assumes nothing.
 use Prim.Native.Nat.{ℕ, _+_, _-_, _*_, _/_, _^_, _%_}
 use Rattle.word.specs.declared.Outcome.{Outcome}
 use Rattle.word.specs.declared.Outcome.the-variants.{Double}

@@ -1,5 +1,4 @@
 -- Divisions: the remainder under, the quotient on top; the flag stays as it came. A divisor of zero is refused.
--- Assumes nothing.
 use Prim.Native.Nat.{ℕ, _-_, _/_, _^_, _%_}
 use mathlib.Core.Bool.{Bool, true, false, not}
 use lib.Dec.{leb, eqb}

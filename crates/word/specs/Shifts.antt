@@ -1,17 +1,16 @@
 -- Shifts by one place, and sign extension; the flag stays as it came.
--- Assumes nothing.
 use Prim.Native.Nat.{ℕ, _+_, _-_, _*_, _/_, _^_, _%_}
 use Rattle.word.specs.declared.Changed.{Changed}
 
--- 2/: bit 31 stays and is copied into bit 30
+-- 2/: bits 31 to 1 go to bits 30 to 0, and bit 31 stays
 abbrev pub halveOf : ℕ → ℕ → Changed
 halveOf x flag = record { value = x / 2 + x / 2 ^ 31 * 2 ^ 31; flag = flag }
 
--- LSL
+-- LSL: bit 0 becomes 0
 abbrev pub shiftLeftOf : ℕ → ℕ → Changed
 shiftLeftOf x flag = record { value = x * 2 % 2 ^ 32; flag = flag }
 
--- LSR
+-- LSR: bit 31 becomes 0
 abbrev pub shiftRightOf : ℕ → ℕ → Changed
 shiftRightOf x flag = record { value = x / 2; flag = flag }
 

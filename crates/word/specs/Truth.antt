@@ -1,5 +1,4 @@
 -- How a test becomes a cell, and how it becomes a flag.
--- Assumes nothing.
 use Prim.Native.Nat.{ℕ, _-_, _^_}
 use mathlib.Core.Bool.{Bool, true, false}
 
@@ -8,6 +7,7 @@ abbrev pub truthOf : Bool → ℕ
 truthOf true = 2 ^ 32 - 1
 truthOf false = 0
 
+-- a carry or a borrow in the flag
 abbrev pub bitOf : Bool → ℕ
 bitOf true = 1
 bitOf false = 0

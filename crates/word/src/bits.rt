@@ -1,19 +1,20 @@
 // Operations on the bits of a cell, each bit for itself; the flag stays.
 ghost use mathlib.Core.Path.{_≡_};
 ghost use Rattle.word.specs.Bits.{andBitsOf, orBitsOf, invertOf, xorBitsOf};
+ghost use Rattle.word.specs.Outcomes.{saysOutcome};
 use crate::Changed;
 use crate::Outcome;
 
 // AND ( x y -- z )
 pub fn and_bits(x: u32, y: u32, flag: u32) -> Outcome
-    ensures { λ r. ⌜ r ≡ andBitsOf x y flag ⌝ }
+    ensures { λ r. ⌜ saysOutcome r ≡ saysOutcome (andBitsOf x y flag) ⌝ }
 {
     Outcome::Single(x & y, flag)
 }
 
 // OR ( x y -- z )
 pub fn or_bits(x: u32, y: u32, flag: u32) -> Outcome
-    ensures { λ r. ⌜ r ≡ orBitsOf x y flag ⌝ }
+    ensures { λ r. ⌜ saysOutcome r ≡ saysOutcome (orBitsOf x y flag) ⌝ }
 {
     Outcome::Single(x | y, flag)
 }
@@ -27,7 +28,7 @@ pub fn invert(x: u32, flag: u32) -> Changed
 
 // XOR ( x y -- z )
 pub fn xor_bits(x: u32, y: u32, flag: u32) -> Outcome
-    ensures { λ r. ⌜ r ≡ xorBitsOf x y flag ⌝ }
+    ensures { λ r. ⌜ saysOutcome r ≡ saysOutcome (xorBitsOf x y flag) ⌝ }
 {
     Outcome::Single(x ^ y, flag)
 }

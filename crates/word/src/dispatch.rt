@@ -1,6 +1,7 @@
 // The operations by name.
 ghost use mathlib.Core.Path.{_≡_};
 ghost use Rattle.word.specs.Dispatch.{oneCellOf, twoCellsOf};
+ghost use Rattle.word.specs.Outcomes.{saysOutcome};
 use crate::Changed;
 use crate::OneCell;
 use crate::Outcome;
@@ -33,7 +34,7 @@ pub fn one_cell(op: OneCell, x: u32, flag: u32) -> Changed
 }
 
 pub fn two_cells(op: TwoCells, x: u32, y: u32, flag: u32) -> Outcome
-    ensures { λ r. ⌜ r ≡ twoCellsOf op x y flag ⌝ }
+    ensures { λ r. ⌜ saysOutcome r ≡ saysOutcome (twoCellsOf op x y flag) ⌝ }
 {
     match op {
         TwoCells::Plus => sums::plus(x, y, flag),

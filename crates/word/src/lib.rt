@@ -42,13 +42,16 @@ pub use sums::negate;
 pub use sums::plus;
 pub use sums::subtract_extended;
 
+// Half the range of a cell: a cell that is not below it holds an integer below zero.
+pub(crate) const HALF: u32 = 0x8000_0000;
+
 // What an operation on one cell leaves: the cell and the flag.
 pub struct Changed {
     pub value: u32,
     pub flag: u32,
 }
 
-// What an operation on two cells leaves: a cell and the flag; or two cells, the top second, and the flag.
+// What an operation on two cells answers: a cell and the flag; two cells, the top second, and the flag; or that the divisor is zero.
 pub enum Outcome {
     Single(u32, u32),
     Double(u32, u32, u32),

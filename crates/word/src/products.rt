@@ -2,18 +2,20 @@
 ghost use mathlib.Core.Path.{_≡_};
 ghost use Prim.Native.Nat.{_*_, _/_, _^_};
 ghost use Rattle.word.specs.Products.{multiplySignedOf, multiplyUnsignedOf};
+ghost use Rattle.word.specs.Outcomes.{saysOutcome};
+use crate::HALF;
 use crate::Outcome;
 
 // The other factor where x is negative: what x then takes off the high word.
 fn if_negative(x: u32, other: u32) -> u32
     ensures { λ r. ⌜ r ≡ x / 2 ^ 31 * other ⌝ }
 {
-    if x < 0x8000_0000 { 0 } else { other }
+    if x < HALF { 0 } else { other }
 }
 
 // MULTS ( x y -- low high ): the unsigned product, with each factor taken off the high word where the other is negative.
 pub fn multiply_signed(x: u32, y: u32, flag: u32) -> Outcome
-    ensures { λ r. ⌜ r ≡ multiplySignedOf x y flag ⌝ }
+    ensures { λ r. ⌜ saysOutcome r ≡ saysOutcome (multiplySignedOf x y flag) ⌝ }
 {
     let product = x as u64 * y as u64;
     let low = (product % 0x1_0000_0000) as u32;
@@ -25,7 +27,7 @@ pub fn multiply_signed(x: u32, y: u32, flag: u32) -> Outcome
 
 // MULTU ( x y -- low high )
 pub fn multiply_unsigned(x: u32, y: u32, flag: u32) -> Outcome
-    ensures { λ r. ⌜ r ≡ multiplyUnsignedOf x y flag ⌝ }
+    ensures { λ r. ⌜ saysOutcome r ≡ saysOutcome (multiplyUnsignedOf x y flag) ⌝ }
 {
     let product = x as u64 * y as u64;
     let low = (product % 0x1_0000_0000) as u32;

@@ -1,9 +1,9 @@
-// Divisions: the remainder under, the quotient on top; the flag stays. No divisor is zero.
+// Divisions: the remainder under, the quotient on top; the flag stays. A divisor of zero is refused.
 ghost use mathlib.Core.Path.{_≡_};
 ghost use Rattle.word.specs.Quotients.{divideSignedOf, divideUnsignedOf, magnitudeOf, withSign, apart};
+ghost use Rattle.word.specs.Outcomes.{saysOutcome};
+use crate::HALF;
 use crate::Outcome;
-
-const HALF: u32 = 0x8000_0000;
 
 fn magnitude(x: u32) -> u32
     ensures { λ r. ⌜ r ≡ magnitudeOf x ⌝ }
@@ -33,7 +33,7 @@ fn differ(a: bool, b: bool) -> bool
 
 // DIVS ( x y -- remainder quotient ): magnitudes are divided, so the quotient is cut toward zero.
 pub fn divide_signed(x: u32, y: u32, flag: u32) -> Outcome
-    ensures { λ r. ⌜ r ≡ divideSignedOf x y flag ⌝ }
+    ensures { λ r. ⌜ saysOutcome r ≡ saysOutcome (divideSignedOf x y flag) ⌝ }
 {
     if y == 0 {
         return Outcome::DivisorZero;
@@ -50,7 +50,7 @@ pub fn divide_signed(x: u32, y: u32, flag: u32) -> Outcome
 
 // DIVU ( x y -- remainder quotient )
 pub fn divide_unsigned(x: u32, y: u32, flag: u32) -> Outcome
-    ensures { λ r. ⌜ r ≡ divideUnsignedOf x y flag ⌝ }
+    ensures { λ r. ⌜ saysOutcome r ≡ saysOutcome (divideUnsignedOf x y flag) ⌝ }
 {
     if y == 0 {
         return Outcome::DivisorZero;

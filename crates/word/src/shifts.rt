@@ -2,14 +2,15 @@
 ghost use mathlib.Core.Path.{_≡_};
 ghost use Rattle.word.specs.Shifts.{halveOf, shiftLeftOf, shiftRightOf, extendByteOf, extendWordOf};
 use crate::Changed;
+use crate::HALF;
 
 // 2/ ( x -- z ): the top bit stays where it is.
 pub fn halve(x: u32, flag: u32) -> Changed
     ensures { λ r. ⌜ r ≡ halveOf x flag ⌝ }
 {
-    let sign = x / 0x8000_0000;
+    let sign = x / HALF;
     Changed {
-        value: x / 2 + sign * 0x8000_0000,
+        value: x / 2 + sign * HALF,
         flag,
     }
 }

@@ -1,8 +1,12 @@
--- The instructions on the linked stacks stand at one code each.
+-- The instructions on the linked stacks and the arithmetic stand at one code each.
 use mathlib.Core.Path.{_≡_, sym, subst}
 use mathlib.Core.Bool.{Bool, true}
 use Prim.Native.Nat.{ℕ, _≤_}
 use lib.Dec.{T, eqb, eqb→eq, lit≤}
+use Rattle.word.specs.declared.OneCell.{OneCell}
+use Rattle.word.specs.declared.OneCell.the-variants.{Negate, Increment, Decrement, Halve, ZeroEqual, ZeroUnequal, ZeroLess, ZeroGreater, Invert, ShiftLeft, ShiftRight, ExtendByte, ExtendWord}
+use Rattle.word.specs.declared.TwoCells.{TwoCells}
+use Rattle.word.specs.declared.TwoCells.the-variants.{Plus, Minus, AddExtended, SubtractExtended, Equal, Unequal, Less, Greater, Below, Above, AndBits, OrBits, XorBits, MultiplySigned, MultiplyUnsigned, DivideSigned, DivideUnsigned}
 use Rattle.machine.specs.Codes.{Link, >R, R-AT, R>, CATCH, RESETSP, THROW, JSL, JSR, EXIT, Op, SHUFFLE, JUMP, LINK, ONE, TWO, FETCH, STORE, LITERAL, table, entryAt}
 use Rattle.machine.specs.Laws.Tables.{Everywhere, at-code}
 
@@ -18,24 +22,70 @@ codeOf JSL = 0x38
 codeOf JSR = 0x39
 codeOf EXIT = 0x3D
 
+abbrev pub codeOfOne : OneCell → ℕ
+codeOfOne Negate = 0x10
+codeOfOne Increment = 0x11
+codeOfOne Decrement = 0x12
+codeOfOne Halve = 0x13
+codeOfOne ZeroEqual = 0x1C
+codeOfOne ZeroUnequal = 0x1D
+codeOfOne ZeroLess = 0x1E
+codeOfOne ZeroGreater = 0x1F
+codeOfOne Invert = 0x23
+codeOfOne ShiftLeft = 0x25
+codeOfOne ShiftRight = 0x26
+codeOfOne ExtendByte = 0x27
+codeOfOne ExtendWord = 0x28
+
+abbrev pub codeOfTwo : TwoCells → ℕ
+codeOfTwo Plus = 0x0E
+codeOfTwo Minus = 0x0F
+codeOfTwo AddExtended = 0x14
+codeOfTwo SubtractExtended = 0x15
+codeOfTwo Equal = 0x16
+codeOfTwo Unequal = 0x17
+codeOfTwo Less = 0x18
+codeOfTwo Greater = 0x19
+codeOfTwo Below = 0x1A
+codeOfTwo Above = 0x1B
+codeOfTwo AndBits = 0x21
+codeOfTwo OrBits = 0x22
+codeOfTwo XorBits = 0x24
+codeOfTwo MultiplySigned = 0x29
+codeOfTwo MultiplyUnsigned = 0x2A
+codeOfTwo DivideSigned = 0x2B
+codeOfTwo DivideUnsigned = 0x2C
+
 -- an entry of one of them stands at its code
-abbrev pub atCode : ℕ → Op → Bool
+atCode : ℕ → Op → Bool
 atCode code (SHUFFLE o) = true
 atCode code (JUMP o) = true
 atCode code (LINK o) = eqb code (codeOf o)
-atCode code (ONE o) = true
-atCode code (TWO o) = true
+atCode code (ONE o) = eqb code (codeOfOne o)
+atCode code (TWO o) = eqb code (codeOfTwo o)
 atCode code (FETCH w) = true
 atCode code (STORE w) = true
 atCode code LITERAL = true
 
 stands : Everywhere (λ code e. atCode code (e .op))
-unfolding table
+unfolding table atCode
 stands = record { in-table = tt; past = λ code. tt; branches = λ code. (tt, tt) }
 
--- the code of an instruction on the linked stacks
+stands-at : (code : ℕ) (op : Op) → entryAt code .op ≡ op → T (atCode code op)
+stands-at code op is = subst (λ (x : Op). T (atCode code x)) is (at-code (λ code e. atCode code (e .op)) stands code)
+
+-- so the instruction tells its code
 pub marked : (code : ℕ) (o : Link) → entryAt code .op ≡ LINK o → code ≡ codeOf o
-marked code o is = eqb→eq code (codeOf o) (subst (λ (op : Op). T (atCode code op)) is (at-code (λ code e. atCode code (e .op)) stands code))
+unfolding atCode
+marked code o is = eqb→eq code (codeOf o) (stands-at code (LINK o) is)
+
+pub marked-one : (code : ℕ) (o : OneCell) → entryAt code .op ≡ ONE o → code ≡ codeOfOne o
+unfolding atCode
+marked-one code o is = eqb→eq code (codeOfOne o) (stands-at code (ONE o) is)
+
+pub marked-two : (code : ℕ) (o : TwoCells) → entryAt code .op ≡ TWO o → code ≡ codeOfTwo o
+unfolding atCode
+marked-two code o is = eqb→eq code (codeOfTwo o) (stands-at code (TWO o) is)
 
 -- CATCH takes a cell
 pub catch-takes : (code : ℕ) → entryAt code .op ≡ LINK CATCH → 1 ≤ entryAt code .takes

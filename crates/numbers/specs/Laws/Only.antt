@@ -3,11 +3,13 @@ use mathlib.Core.List.{List}
 use mathlib.Core.Path.{_≡_, refl, sym, ap, _∙_}
 use Prim.Native.Nat.{ℕ}
 use Rattle.plain.specs.Answer.{Answer}
-use Rattle.numbers.specs.Slices.{saysFound, saysFoundEight, saysWritten, readAt, Wrote, writeAt}
+use Rattle.numbers.specs.Slices.{saysFound, saysFoundEight, saysWritten, readAt, Wrote, writeAt, saysPut, Spelled, putAt}
 use Rattle.numbers.specs.declared.Found.{Found}
 use Rattle.numbers.specs.declared.Found.the-variants.{Number, Outside}
 use Rattle.numbers.specs.declared.FoundEight.{FoundEight}
 use Rattle.numbers.specs.declared.FoundEight.the-variants as eight
+use Rattle.numbers.specs.declared.Put.{Put}
+use Rattle.numbers.specs.declared.Put.the-variants.{Until, NoRoom}
 use Rattle.numbers.specs.declared.Written.{Written}
 use Rattle.numbers.specs.declared.Written.the-variants as writing
 
@@ -30,6 +32,12 @@ same-written writing.Done writing.Outside e = cc
 same-written writing.Outside writing.Done e = cc
 same-written writing.Outside writing.Outside e = refl
 
+pub same-put : (a b : Put) → saysPut a ≡ saysPut b → a ≡ b
+same-put (Until v) (Until w) e = cc
+same-put (Until v) NoRoom e = cc
+same-put NoRoom (Until w) e = cc
+same-put NoRoom NoRoom e = refl
+
 -- read_one, read_two, read_four
 pub only-read : (n : ℕ) (bytes : List ℕ) (at : ℕ) (a b : Found) → saysFound a ≡ readAt n bytes at → saysFound b ≡ readAt n bytes at → a ≡ b
 only-read n bytes at a b h k = same-found a b (h ∙ sym k)
@@ -45,6 +53,15 @@ pub only-write : (n v : ℕ) (bytes : List ℕ) (at : ℕ) (a b : Written) (x y 
 only-write n v bytes at a b x y h k =
     let same : _≡_ {A = Wrote} (record { said = saysWritten a; bytes = x }) (record { said = saysWritten b; bytes = y }) = h ∙ sym k in
     (same-written a b (ap (λ (w : Wrote). w .said) same), ap (λ (w : Wrote). w .bytes) same)
+
+-- write_decimal, write_hexadecimal: the answer and every character
+pub only-put : (characters text : List ℕ) (at : ℕ) (a b : Put) (x y : List ℕ)
+    → record { said = saysPut a; text = x } ≡ putAt characters text at
+    → record { said = saysPut b; text = y } ≡ putAt characters text at
+    → (a ≡ b) × (x ≡ y)
+only-put characters text at a b x y h k =
+    let same : _≡_ {A = Spelled} (record { said = saysPut a; text = x }) (record { said = saysPut b; text = y }) = h ∙ sym k in
+    (same-put a b (ap (λ (s : Spelled). s .said) same), ap (λ (s : Spelled). s .text) same)
 
 -- one_byte, two_bytes, three_bytes, four_bytes, eight_bytes, low_byte: a number that is given by an equation
 pub only-joined : (joined a b : ℕ) → a ≡ joined → b ≡ joined → a ≡ b

@@ -1,7 +1,7 @@
 -- Powers of 256 and remainders of them.
 use mathlib.Core.Path.{_≡_, refl, sym, ap, _∙_}
-use Prim.Native.Nat.{ℕ, suc, _+_, _*_, _/_, _%_, _^_, _<_}
-use native.Mathlib.Nat.{mul-suc, mul-add, mul-assoc, div-add-mod', mod-lt, mod-eq-of-lt, mul-add-mod-self-right, div-div-eq-div-mul}
+use Prim.Native.Nat.{ℕ, suc, _+_, _*_, _/_, _%_, _^_, _≤_, _<_}
+use native.Mathlib.Nat.{mul-suc, mul-assoc, add-mul, one-mul, mul-le-mul-right, div-add-mod', mod-lt, mod-eq-of-lt, mul-add-mod-self-right, div-div-eq-div-mul}
 use native.Mathlib.Omega.{arith}
 use lib.Pow.{pow-pos, pow-add}
 
@@ -20,17 +20,25 @@ div-power m n v = div-div-eq-div-mul v (2 ^ (8 * n)) (2 ^ (8 * m)) ∙ ap (λ (k
 pub mod-below : (n v : ℕ) → v % 2 ^ (8 * n) < 2 ^ (8 * n)
 mod-below n v = mod-lt v (pow-pos (8 * n))
 
--- the low part of a number: the low part of its 256th, then its last byte
+-- a remainder by a product: that of the quotient, then that of the number
+pub mod-parts : (k b v : ℕ) → 0 < k → 0 < b → v % (k * b) ≡ v / b % k * b + v % b
+mod-parts k b v some-k some-b =
+    let q : ℕ = v / b in
+    let low : ℕ = q % k * b + v % b in
+    let below : q % k < k = mod-lt q some-k in
+    let small : q % k + 1 ≤ k = omega arith in
+    let smaller : v % b < b = mod-lt v some-b in
+    let within : (q % k + 1) * b ≤ k * b = mul-le-mul-right b small in
+    let next : (q % k + 1) * b ≡ q % k * b + 1 * b = add-mul (q % k) 1 b in
+    let outer : v / b * b + v % b ≡ v = div-add-mod' v b in
+    let inner : q / k * k + q % k ≡ q = div-add-mod' q k in
+    let spread : (q / k * k + q % k) * b ≡ q / k * k * b + q % k * b = add-mul (q / k * k) (q % k) b in
+    let same : (q / k * k + q % k) * b ≡ q * b = ap (λ (x : ℕ). x * b) inner in
+    let joined : q / k * k * b ≡ q / k * (k * b) = mul-assoc (q / k) k b in
+    let one : 1 * b ≡ b = one-mul b in
+    let whole : v ≡ q / k * (k * b) + low = omega arith in
+    ap (λ (x : ℕ). x % (k * b)) whole ∙ mul-add-mod-self-right (q / k) (k * b) low ∙ mod-eq-of-lt (omega arith)
+
+-- the low bytes of a number: those of its 256th, then its last byte
 pub mod-last : (n v : ℕ) → v % 2 ^ (8 * suc n) ≡ v / 2 ^ 8 % 2 ^ (8 * n) * 2 ^ 8 + v % 2 ^ 8
-mod-last n v =
-    let k : ℕ = 2 ^ (8 * n) in
-    let q : ℕ = v / 2 ^ 8 in
-    let low : ℕ = q % k * 2 ^ 8 + v % 2 ^ 8 in
-    let small : q % k < k = mod-below n q in
-    let split : q / k * k + q % k ≡ q = div-add-mod' q k in
-    let one : q / k * (k * 2 ^ 8) ≡ q / k * k * 2 ^ 8 = sym (mul-assoc (q / k) k (2 ^ 8)) in
-    let whole : v ≡ q / k * (k * 2 ^ 8) + low = omega arith in
-    ap (λ (m : ℕ). v % m) (power-suc n)
-    ∙ ap (λ (x : ℕ). x % (k * 2 ^ 8)) whole
-    ∙ mul-add-mod-self-right (q / k) (k * 2 ^ 8) low
-    ∙ mod-eq-of-lt (omega arith)
+mod-last n v = ap (λ (m : ℕ). v % m) (power-suc n) ∙ mod-parts (2 ^ (8 * n)) (2 ^ 8) v (pow-pos (8 * n)) (pow-pos 8)

@@ -5,7 +5,7 @@ use Prim.Native.Nat.{ℕ, suc, _+_, _*_, _/_, _%_, _^_, _≤_, _<_}
 use native.Mathlib.Nat.{add-zero, mod-eq-of-lt}
 use native.Mathlib.Omega.{arith}
 use lib.ListN.{length, take, drop, getD, set}
-use lib.Seq.{sets, sets-eq, getD-set-other, length-take-le}
+use lib.Seq.{sets, sets-eq, set-comm, getD-set-other, length-take-le}
 use Rattle.numbers.specs.Bytes.{byteAt, numberAt, bytesOf}
 use Rattle.numbers.specs.Laws.Bytes.{length-bytes, bytes-parts, bytes-low, same-number, number-read}
 
@@ -15,6 +15,15 @@ sets-append [] ys l a = ap (λ (k : ℕ). sets l k ys) (sym (add-zero a))
 sets-append (x ∷ xs) ys l a =
     let e : suc a + length xs ≡ a + suc (length xs) = omega arith in
     sets-append xs ys (set l a x) (suc a) ∙ ap (λ (k : ℕ). sets (sets (set l a x) (suc a) xs) k ys) e
+
+-- the last element may as well be stored first
+pub sets-last : (xs l : List ℕ) (a x : ℕ) → sets l a (xs ++ (x ∷ [])) ≡ sets (set l (a + length xs) x) a xs
+sets-last [] l a x = ap (λ (k : ℕ). set l k x) (sym (add-zero a))
+sets-last (y ∷ ys) l a x =
+    let e : suc a + length ys ≡ a + suc (length ys) = omega arith in
+    sets-last ys (set l a y) (suc a) x
+    ∙ ap (λ (m : List ℕ). sets m (suc a) ys)
+    (set-comm l a (suc a + length ys) y x (λ (same : a ≡ suc a + length ys). omega arith) ∙ ap (λ (k : ℕ). set (set l k x) a y) e)
 
 -- the high bytes written, then the low ones after them
 pub written-parts : (m n v : ℕ) (l : List ℕ) (a : ℕ)

@@ -1,10 +1,6 @@
 -- The field that was put is the whole text.
-use mathlib.Core.List.{List}
-use mathlib.Core.Path.{ap, _∙_}
-use Prim.Native.Nat.{ℕ}
+use Rattle.report.proofs.Printing.{refusal-printed}
 use borrow.Author.Needs.{needs}
-use Rattle.report.specs.Text.{refusalText}
-use Rattle.report.specs.Printing.{printedIn, refusalOf}
 use Rattle.report.proofs.refusal.Statement.{statement}
 use Rattle.report.proofs.refusal.Tie as tie
 
@@ -24,11 +20,7 @@ same-length : tie.Need-same-length
 same-length c = search needs
 
 returns : tie.Need-returns
-unfolding refusalOf refusalText
-returns c =
-    let start = c .before .before .before .before .before .before .before .before .before in
-    let put = c .before .before .before .before .before .before .put-field in
-    c .before .before .print .ensures ∙ ap (λ (t : List ℕ). printedIn t (start .args .out .now)) (put .ensures .1 .text-is)
+returns c = search (needs, refusal-printed)
 
 pub refusal-spec : {M : Type 1} → statement M
 refusal-spec =

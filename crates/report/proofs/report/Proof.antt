@@ -1,18 +1,11 @@
 -- The line and the cells that were put are the text of the run.
-use mathlib.Core.List.{List, _++_}
-use mathlib.Core.Path.{_≡_, ap, _∙_}
-use Prim.Native.Nat.{ℕ}
-use lib.ListN.{take}
-use borrow.Author.Tests.{le-leb, lt-leb}
+use Rattle.report.proofs.Printing.{too-many, run-printed}
 use borrow.Author.Needs.{needs}
-use Rattle.report.specs.Text.{cellLines, textOf}
-use Rattle.report.specs.Printing.{printedIn, reportOf}
 use Rattle.report.proofs.report.Statement.{statement}
 use Rattle.report.proofs.report.Tie as tie
 
 returns : tie.Need-returns
-unfolding reportOf
-returns c = simp (lt-leb _ _ (c .if1 .taken))
+returns c = search (needs, too-many)
 
 cast-t14 : tie.Need-cast-t14
 cast-t14 c = search needs
@@ -48,18 +41,7 @@ same-length : tie.Need-same-length
 same-length c = search needs
 
 returns-2 : tie.Need-returns-2
-unfolding textOf reportOf
-returns-2 c =
-    let tested = c .before .before .before .before .before .before .before .before .before .before .before .before .before .before .before .before .before .before .before in
-    let start = tested .before .before .before in
-    let line = c .before .before .before .before .before .before .before .before .before .put-line in
-    let cells = c .before .before .before .before .before .before .put-cells in
-    let text : take (cells .result) (cells .last .0) ≡ textOf (start .args .ran) =
-    cells .ensures .1 .text-is
-    ∙ ap (λ (l : List ℕ). l ++ cellLines (take (start .args .ran .machine .p) (start .args .ran .machine .cells))) (line .ensures .1 .text-is) in
-    c .before .before .print .ensures
-    ∙ ap (λ (t : List ℕ). printedIn t (start .args .out .now)) text
-    ∙ simp (le-leb _ _ (tested .if1 .left))
+returns-2 c = search (needs, run-printed)
 
 pub report-spec : {M : Type 1} → statement M
 report-spec =

@@ -4,7 +4,8 @@ use mathlib.Core.Path.{_≡_, refl}
 use lib.ListN.{replicate}
 use Rattle.links.specs.Fresh.{freshLinks}
 use Rattle.machine.specs.declared.Ran.{Ran}
-use Rattle.report.specs.Text.{digits, decimal, hexDigits, field, line, cellLine, cellLines, textOf, refusalText}
+use Rattle.numbers.specs.Digits.{digits, decimal, hexadecimal}
+use Rattle.report.specs.Text.{field, line, cellLine, cellLines, textOf, refusalText}
 
 abbrev pub sampleRan : Ran
 sampleRan =
@@ -18,7 +19,7 @@ sampleRan =
 pub sample-text : textOf sampleRan ≡
     0x30 ∷ 0x20 ∷ 0x33 ∷ 0x20 ∷ 0x35 ∷ 0x20 ∷ 0x35 ∷ 0x20 ∷ 0x31 ∷ 0x20 ∷ 0x30 ∷ 0x20 ∷ 0x30 ∷ 0x20 ∷ 0x30 ∷ 0x0A ∷
     0x30 ∷ 0x30 ∷ 0x30 ∷ 0x30 ∷ 0x30 ∷ 0x30 ∷ 0x30 ∷ 0x43 ∷ 0x0A ∷ []
-unfolding freshLinks digits decimal hexDigits field line cellLine cellLines textOf
+unfolding freshLinks digits decimal hexadecimal field line cellLine cellLines textOf
 sample-text = refl
 
 pub sample-refusal : refusalText 14 ≡ 0x31 ∷ 0x34 ∷ 0x0A ∷ []

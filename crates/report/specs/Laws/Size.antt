@@ -5,46 +5,53 @@ use mathlib.Core.Path.{_≡_, refl, _∙_}
 use Prim.Native.Nat.{ℕ, _+_, _*_, _≤_}
 use native.Mathlib.Omega.{arith}
 use lib.Dec.{leb}
-use lib.ListN.{length, take, length-append, length-take}
-use borrow.Author.Tests.{leb-true}
+use lib.ListN.{length, take, drop, length-append, length-take}
+use borrow.Author.Tests.{leb-true, le-leb}
+use Rattle.plain.specs.Answer.{gives}
 use Rattle.plain.specs.Choice.{both}
+use Rattle.numbers.specs.Digits.{decimal, hexadecimal}
+use Rattle.numbers.specs.Laws.Digits.{decimal-short, decimal-some, length-hexadecimal}
 use Rattle.machine.specs.State.{wellFormed}
 use Rattle.machine.specs.declared.Ran.{Ran}
-use Rattle.report.specs.Text.{space, lineFeed, field, line, cellLine, cellLines, numbersOf, textOf}
-use Rattle.report.specs.Laws.Digits.{field-short, field-some, length-cell-line}
+use Rattle.report.specs.Text.{space, lineFeed, field, line, cellDigits, cellLine, cellLines, numbersOf, textOf, refusalText}
+use Rattle.report.specs.Sizes.{longestField, cellSize, mostCells, longest}
+use Rattle.report.specs.Printing.{printedIn, reportOf, refusalOf}
 
--- the longest text: eight numbers of 20 digits, 64 cells
-abbrev pub longest : ℕ
-longest = 744
+pub field-size : (n end : ℕ) → (2 ≤ length (field n end)) × (length (field n end) ≤ longestField)
+unfolding field
+field-size n end = omega (arith, length-append (decimal n) (end ∷ []), decimal-some n, decimal-short n)
 
-line-size : (ns : List ℕ) → (2 * length ns ≤ length (line ns)) × (length (line ns) ≤ 21 * length ns)
+line-size : (ns : List ℕ) → (2 * length ns ≤ length (line ns)) × (length (line ns) ≤ length ns * longestField)
 unfolding line
 line-size [] = omega arith
-line-size (n ∷ []) =
-    let low : 2 ≤ length (field n lineFeed) = field-some n lineFeed in
-    let high : length (field n lineFeed) ≤ 21 = field-short n lineFeed in
-    omega arith
+line-size (n ∷ []) = let size = field-size n lineFeed in omega arith
 line-size (n ∷ m ∷ ns) =
-    let low : 2 ≤ length (field n space) = field-some n space in
-    let high : length (field n space) ≤ 21 = field-short n space in
+    let size = field-size n space in
     let rest = line-size (m ∷ ns) in
     let long : length (field n space ++ line (m ∷ ns)) ≡ length (field n space) + length (line (m ∷ ns)) = length-append (field n space) (line (m ∷ ns)) in
     omega arith
 
-cells-size : (vs : List ℕ) → length (cellLines vs) ≡ 9 * length vs
+pub length-cell-line : (v : ℕ) → length (cellLine v) ≡ cellSize
+unfolding cellLine
+length-cell-line v =
+    let digits : length (hexadecimal cellDigits v) ≡ cellDigits = length-hexadecimal cellDigits v in
+    length-append (hexadecimal cellDigits v) (lineFeed ∷ []) ∙ omega arith
+
+pub cells-size : (vs : List ℕ) → length (cellLines vs) ≡ length vs * cellSize
 unfolding cellLines
 cells-size [] = refl
 cells-size (v ∷ vs) =
-    let nine : length (cellLine v) ≡ 9 = length-cell-line v in
-    let rest : length (cellLines vs) ≡ 9 * length vs = cells-size vs in
+    let one : length (cellLine v) ≡ cellSize = length-cell-line v in
+    let rest : length (cellLines vs) ≡ length vs * cellSize = cells-size vs in
     length-append (cellLine v) (cellLines vs) ∙ omega arith
 
-pub text-size : (ran : Ran) → ran .machine .p ≤ 64 → (16 ≤ length (textOf ran)) × (length (textOf ran) ≤ longest)
+-- every run's text fits the longest: the constant LONGEST of the code
+pub text-size : (ran : Ran) → ran .machine .p ≤ mostCells → (16 ≤ length (textOf ran)) × (length (textOf ran) ≤ longest)
 unfolding textOf
 text-size ran h =
     let cells = take (ran .machine .p) (ran .machine .cells) in
     let first = line-size (numbersOf ran) in
-    let rest : length (cellLines cells) ≡ 9 * length cells = cells-size cells in
+    let rest : length (cellLines cells) ≡ length cells * cellSize = cells-size cells in
     let few = length-take (ran .machine .p) (ran .machine .cells) in
     let long : length (line (numbersOf ran) ++ cellLines cells) ≡ length (line (numbersOf ran)) + length (cellLines cells) = length-append (line (numbersOf ran)) (cellLines cells) in
     omega arith
@@ -55,4 +62,23 @@ both-first false b h = h
 
 pub well-formed-size : (ran : Ran) → wellFormed (ran .machine) ≡ true → (16 ≤ length (textOf ran)) × (length (textOf ran) ≤ longest)
 unfolding wellFormed
-well-formed-size ran h = text-size ran (leb-true _ _ (both-first (leb (ran .machine .p) 64) _ h))
+well-formed-size ran h = text-size ran (leb-true _ _ (both-first (leb (ran .machine .p) mostCells) _ h))
+
+-- so a buffer of the longest text's length is never too short
+fitting : (text out : List ℕ) → length text ≤ length out → printedIn text out ≡ record { printed = gives (length text); out = text ++ drop (length text) out }
+unfolding printedIn
+fitting text out h = simp (le-leb (length text) (length out) h)
+
+pub longest-suffices : (ran : Ran) (out : List ℕ) → ran .machine .p ≤ mostCells → longest ≤ length out
+    → reportOf ran out ≡ record { printed = gives (length (textOf ran)); out = textOf ran ++ drop (length (textOf ran)) out }
+unfolding reportOf
+longest-suffices ran out few room =
+    let size = text-size ran few in
+    simp (le-leb (ran .machine .p) mostCells few) (fitting (textOf ran) out (omega arith))
+
+pub refusal-fits : (number : ℕ) (out : List ℕ) → longest ≤ length out
+    → refusalOf number out ≡ record { printed = gives (length (refusalText number)); out = refusalText number ++ drop (length (refusalText number)) out }
+unfolding refusalOf refusalText
+refusal-fits number out room =
+    let size = field-size number lineFeed in
+    fitting (field number lineFeed) out (omega arith)

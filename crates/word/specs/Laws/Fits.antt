@@ -1,13 +1,14 @@
 -- What the operations leave fits: every cell is below 2 ^ 32.
--- Assumes nothing.
 use mathlib.Core.Bool.{Bool, true, false, not}
 use Prim.Native.Nat.{ℕ, _*_, _^_, _%_, _<_}
 use native.Mathlib.Nat.{lt-of-le-of-lt, mod-le, div-le-self}
 use native.Mathlib.Omega.{arith}
 use lib.Bits.{and-lt, or-lt, xor-lt}
 use lib.Dec.{ltb, eqb}
+use lib.IntN.{pos}
+use lib.Signed.{ltZ}
 use Rattle.word.specs.Laws.Bounds.{product-below, truth-below, sign-below}
-use Rattle.word.specs.Compare.{lifted}
+use Rattle.word.specs.Integers.{signed}
 use Rattle.word.specs.Products.{wide, wordsOf}
 use Rattle.word.specs.Quotients.{unlessZero, isNegative, magnitudeOf, apart}
 use Rattle.word.specs.Dispatch.{oneCellOf, twoCellsOf}
@@ -26,8 +27,8 @@ one-fits Decrement x flag hx = omega arith
 one-fits Halve x flag hx = omega arith
 one-fits ZeroEqual x flag hx = truth-below (eqb x 0)
 one-fits ZeroUnequal x flag hx = truth-below (not (eqb x 0))
-one-fits ZeroLess x flag hx = truth-below (ltb (lifted x) (lifted 0))
-one-fits ZeroGreater x flag hx = truth-below (ltb (lifted 0) (lifted x))
+one-fits ZeroLess x flag hx = truth-below (ltZ (signed x) (pos 0))
+one-fits ZeroGreater x flag hx = truth-below (ltZ (pos 0) (signed x))
 one-fits Invert x flag hx = omega arith
 one-fits ShiftLeft x flag hx = omega arith
 one-fits ShiftRight x flag hx = omega arith
@@ -66,8 +67,8 @@ two-fit AddExtended x y flag hx hy = omega arith
 two-fit SubtractExtended x y flag hx hy = omega arith
 two-fit Equal x y flag hx hy = truth-below (eqb x y)
 two-fit Unequal x y flag hx hy = truth-below (not (eqb x y))
-two-fit Less x y flag hx hy = truth-below (ltb (lifted x) (lifted y))
-two-fit Greater x y flag hx hy = truth-below (ltb (lifted y) (lifted x))
+two-fit Less x y flag hx hy = truth-below (ltZ (signed x) (signed y))
+two-fit Greater x y flag hx hy = truth-below (ltZ (signed y) (signed x))
 two-fit Below x y flag hx hy = truth-below (ltb x y)
 two-fit Above x y flag hx hy = truth-below (ltb y x)
 two-fit AndBits x y flag hx hy = and-lt 32 x y hx hy

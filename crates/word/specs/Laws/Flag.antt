@@ -91,9 +91,11 @@ two-leaves op x y flag other = two-bit (λ f. f ≡ flag) op x y flag refl (λ n
 pub two-flag : (op : TwoCells) (x y flag : ℕ) → flag ≤ 1 → FlagFits (twoCellsOf op x y flag)
 two-flag op x y flag h = two-bit (λ f. f ≤ 1) op x y flag h (λ named s. bit-le s)
 
+-- some cells take the flag from 0 to 1
 abbrev pub TwoMoves : TwoCells → Type 0
 TwoMoves op = (x y z : ℕ) × (twoCellsOf op x y 0 ≡ Single z 1)
 
+-- each that is named moves it
 pub two-moves : (op : TwoCells) → List·Memᴰ op twoMovers → TwoMoves op
 unfolding twoCellsOf
 two-moves op (List·Memᴰ·head e) = subst TwoMoves (sym e) (2 ^ 32 - 1, 1, 0, refl)

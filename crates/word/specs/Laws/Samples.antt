@@ -1,13 +1,15 @@
 -- Worked samples of the definitions, each by computation.
--- Assumes nothing.
+use mathlib.Core.List.{[], _∷_}
 use mathlib.Core.Path.{_≡_, refl}
+use Rattle.plain.specs.Answer.{refuses, gives}
 use Rattle.word.specs.Sums.{plusOf, incrementOf, negateOf, addExtendedOf, subtractExtendedOf}
 use Rattle.word.specs.Compare.{lessOf, belowOf}
 use Rattle.word.specs.Bits.{xorBitsOf, invertOf}
 use Rattle.word.specs.Shifts.{halveOf, extendByteOf}
 use Rattle.word.specs.Products.{multiplySignedOf, multiplyUnsignedOf}
 use Rattle.word.specs.Quotients.{divideSignedOf, divideUnsignedOf}
-use Rattle.word.specs.declared.Outcome.the-variants.{Single, Double, DivisorZero}
+use Rattle.word.specs.Outcomes.{leaves, saysOutcome}
+use Rattle.word.specs.declared.Outcome.the-variants.{Single, Double}
 
 plus-carries : plusOf 0xffffffff 1 0 ≡ Single 0 1
 plus-carries = refl
@@ -53,5 +55,9 @@ minus-one-squared = refl
 cut-toward-zero : divideSignedOf 0xfffffff9 2 0 ≡ Double 0xffffffff 0xfffffffd 0
 cut-toward-zero = refl
 
-zero-by-zero : divideUnsignedOf 0 0 1 ≡ DivisorZero
-zero-by-zero = refl
+-- the same in document 01's terms, and a refusal
+remainder-under-quotient : saysOutcome (divideSignedOf 0xfffffff9 2 0) ≡ gives (leaves (0xffffffff ∷ 0xfffffffd ∷ []) 0)
+remainder-under-quotient = refl
+
+divisor-zero-is-13 : saysOutcome (divideUnsignedOf 0 0 1) ≡ refuses 13
+divisor-zero-is-13 = refl

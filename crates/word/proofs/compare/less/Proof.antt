@@ -1,25 +1,13 @@
--- `word::less` meets its contract: the truth of its test on the lifted cells.
--- Assumes nothing.
-use Prim.Native.Nat.{ℕ}
+-- `word::less` meets its contract: the truth of the order of the integers.
 use borrow.Author.Needs.{needs}
-use lib.Dec.{ltb}
-use mathlib.Core.Path.{refl, ap₂, _∙_}
+use mathlib.Core.Path.{refl, ap, _∙_}
 use Rattle.word.proofs.Parts.{single}
 use Rattle.word.specs.Truth.{truthOf}
 use Rattle.word.proofs.compare.less.Statement.{statement}
 use Rattle.word.proofs.compare.less.Tie as tie
 
-lift-requires : tie.Need-lift-requires
-lift-requires c κs = search needs
-
-lift-requires-2 : tie.Need-lift-requires-2
-lift-requires-2 c κs = search needs
-
-truth-requires : tie.Need-truth-requires
-truth-requires c κs = search needs
-
 returns : tie.Need-returns
-returns c = single (c .truth .ensures ∙ ap₂ (λ (m n : ℕ). truthOf (ltb m n)) (c .before .before .lift .ensures) (c .before .lift2 .ensures)) refl
+returns c = single (c .truth .ensures ∙ ap truthOf (c .before .is-less .ensures)) refl
 
 pub less-spec : {M : Type 1} → statement M
-less-spec = tie.close (tie.spec lift-requires lift-requires-2 truth-requires returns)
+less-spec = tie.close (tie.spec (λ c κs. search needs) (λ c κs. search needs) returns)

@@ -1,22 +1,10 @@
--- `word::zero_less` meets its contract: the truth of its test on the lifted cell.
--- Assumes nothing.
-use Prim.Native.Nat.{ℕ, _^_}
+-- `word::zero_less` meets its contract: the truth of the order of the integers.
 use borrow.Author.Needs.{needs}
-use lib.Dec.{ltb}
-use mathlib.Core.Path.{refl, ap, _∙_}
-use Rattle.word.proofs.Parts.{changed}
-use Rattle.word.specs.Truth.{truthOf}
 use Rattle.word.proofs.compare.zero_less.Statement.{statement}
 use Rattle.word.proofs.compare.zero_less.Tie as tie
 
-lift-requires : tie.Need-lift-requires
-lift-requires c κs = search needs
-
-truth-requires : tie.Need-truth-requires
-truth-requires c κs = search needs
-
 returns : tie.Need-returns
-returns c = changed (c .truth .ensures ∙ ap (λ (n : ℕ). truthOf (ltb n (2 ^ 31))) (c .before .lift .ensures)) refl
+returns c = rw (← c .before .is-less .ensures) (c .told .ensures)
 
 pub zero-less-spec : {M : Type 1} → statement M
-zero-less-spec = tie.close (tie.spec lift-requires truth-requires returns)
+zero-less-spec = tie.close (tie.spec (λ c κs. search needs) (λ c κs. search needs) returns)

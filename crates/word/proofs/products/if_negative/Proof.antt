@@ -1,5 +1,4 @@
 -- `word::if_negative` meets its contract: x / 2 ^ 31 is 0 below half the range, and else 1.
--- Assumes nothing.
 use Prim.Native.Nat.{ℕ, _*_, _/_, _^_}
 use mathlib.Core.Path.{_≡_, sym, ap, _∙_}
 use native.Mathlib.Omega.{arith}

@@ -1,5 +1,4 @@
 -- `word::multiply_signed` meets its contract: the words of the product, with each factor taken off the high word where the other is negative.
--- Assumes nothing.
 use Prim.Native.Nat.{_+_, _*_, _/_, _^_, _%_}
 use borrow.Author.Needs.{needs}
 use mathlib.Core.Path.{_≡_}
@@ -13,23 +12,8 @@ use Rattle.word.proofs.products.multiply_signed.Tie as tie
 mul-product : tie.Need-mul-product
 mul-product c = record { fits = product-below (search needs) (search needs) }
 
-cast-low : tie.Need-cast-low
-cast-low c = search needs
-
 cast-high : tie.Need-cast-high
 cast-high c = omega (arith, product-below {x = c .args .x} {y = c .args .y} (search needs) (search needs))
-
-if-negative-requires : tie.Need-if-negative-requires
-if-negative-requires c κs = search needs
-
-wrapping-sub-u32-requires : tie.Need-wrapping-sub-u32-requires
-wrapping-sub-u32-requires c κs = search needs
-
-if-negative-requires-2 : tie.Need-if-negative-requires-2
-if-negative-requires-2 c κs = search needs
-
-wrapping-sub-u32-requires-2 : tie.Need-wrapping-sub-u32-requires-2
-wrapping-sub-u32-requires-2 c κs = search needs
 
 returns : tie.Need-returns
 returns c =
@@ -46,10 +30,10 @@ multiply-signed-spec =
     tie.close
     (tie.spec
     mul-product
-    cast-low
+    (λ c. search needs)
     cast-high
-    if-negative-requires
-    wrapping-sub-u32-requires
-    if-negative-requires-2
-    wrapping-sub-u32-requires-2
+    (λ c κs. search needs)
+    (λ c κs. search needs)
+    (λ c κs. search needs)
+    (λ c κs. search needs)
     returns)

@@ -1,5 +1,4 @@
 -- `word::extend_byte` meets its contract: half the range is added, wrapped and taken off again.
--- Assumes nothing.
 use borrow.Author.Needs.{needs}
 use lib.Dec.{lit≤}
 use mathlib.Core.Path.{refl}
@@ -8,14 +7,8 @@ use Rattle.word.proofs.Parts.{changed}
 use Rattle.word.proofs.shifts.extend_byte.Statement.{statement}
 use Rattle.word.proofs.shifts.extend_byte.Tie as tie
 
-add-turned : tie.Need-add-turned
-add-turned c = search needs
-
-wrapping-sub-u32-requires : tie.Need-wrapping-sub-u32-requires
-wrapping-sub-u32-requires c κs = search needs
-
 returns : tie.Need-returns
 returns c = changed (extended 7 (c .before .args .x) (c .wrapping-sub-u32 .result) (lit≤ tt) (search needs) (c .wrapping-sub-u32 .ensures)) refl
 
 pub extend-byte-spec : {M : Type 1} → statement M
-extend-byte-spec = tie.close (tie.spec add-turned wrapping-sub-u32-requires returns)
+extend-byte-spec = tie.close (tie.spec (λ c. search needs) (λ c κs. search needs) returns)

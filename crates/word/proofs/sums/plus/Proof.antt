@@ -1,23 +1,11 @@
--- `word::plus` meets its contract: the sum is below x just when it carried.
--- Assumes nothing.
+-- `word::plus` meets its contract: the sum stands in the place of two cells.
 use borrow.Author.Needs.{needs}
-use mathlib.Core.Path.{_∙_}
-use Rattle.word.proofs.Parts.{single}
-use Rattle.word.proofs.Wrapped.{carried}
+use Rattle.word.proofs.Parts.{stands-alone}
 use Rattle.word.proofs.sums.plus.Statement.{statement}
 use Rattle.word.proofs.sums.plus.Tie as tie
 
-wrapping-add-u32-requires : tie.Need-wrapping-add-u32-requires
-wrapping-add-u32-requires c κs = search needs
-
-bit-requires : tie.Need-bit-requires
-bit-requires c κs = search needs
-
 returns : tie.Need-returns
-returns c =
-    let a = c .before .before .args in
-    single (c .before .wrapping-add-u32 .ensures)
-    (c .bit .ensures ∙ carried (a .x) (a .y) (c .before .wrapping-add-u32 .result) (search needs) (search needs) (c .before .wrapping-add-u32 .ensures))
+returns c = stands-alone (c .sum .ensures)
 
 pub plus-spec : {M : Type 1} → statement M
-plus-spec = tie.close (tie.spec wrapping-add-u32-requires bit-requires returns)
+plus-spec = tie.close (tie.spec (λ c κs. search needs) returns)

@@ -1,0 +1,26 @@
+-- How long a text can be, from its parts.
+use Prim.Native.Nat.{ℕ, _+_, _*_}
+use Rattle.numbers.specs.Digits.{mostDecimal}
+use Rattle.report.specs.Text.{cellDigits}
+
+-- a number, and the character after it
+abbrev pub longestField : ℕ
+longestField = mostDecimal + 1
+
+-- so many numbers stand on the line of a run
+abbrev pub fields : ℕ
+fields = 8
+
+abbrev pub longestLine : ℕ
+longestLine = fields * longestField
+
+-- a cell, and the line feed after it
+abbrev pub cellSize : ℕ
+cellSize = cellDigits + 1
+
+-- the depth of the parameter stack
+abbrev pub mostCells : ℕ
+mostCells = 64
+
+abbrev pub longest : ℕ
+longest = longestLine + mostCells * cellSize

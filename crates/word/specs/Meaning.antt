@@ -1,8 +1,0 @@
-pub mod Integers
-pub mod Magnitude
-pub mod Sums
-pub mod Order
-pub mod Bits
-pub mod Extension
-pub mod Products
-pub mod Quotients
