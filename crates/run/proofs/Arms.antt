@@ -1,255 +1,351 @@
--- The arms of a turn that act on the linked stacks: each goes on as defined, or leaves with the number of the first test that holds.
-use mathlib.Core.Path.{_≡_, refl, ap, sym, _∙_, subst⁻¹}
+-- The arms of a round: what each instruction on the linked stacks, the memory and the cells in view does, by what its check answers.
+use mathlib.Core.Path.{_≡_, refl, ap, sym, _∙_, subst, subst⁻¹}
 use mathlib.Core.Bool.{Bool, true, false}
 use mathlib.Core.List.{List}
-use Prim.Native.Nat.{ℕ, _+_, _-_, _%_, _^_, _≤_, _<_}
+use mathlib.Core.Logic.{_⊎_, inl, inr}
+use Prim.Native.Nat.{ℕ, suc, _+_, _-_, _%_, _^_, _≤_, _<_}
+use native.Mathlib.Omega.{arith}
+use native.Mathlib.Numerals.{add-one}
+use borrow.Author.Tests.{le-ltb, ltb-false, eq-eqb, eqb-false}
+use lib.Dec.{ltb, leb, eqb, leb·suc-suc}
 use lib.ListN.{getD, set}
-use Rattle.links.specs.Actions.{calledFrame, caughtLevel}
-use Rattle.links.specs.Linked.{noFrame, noLevel, copyOfR, copyOfS}
-use Rattle.machine.specs.Codes.{cyclesOf}
-use Rattle.machine.specs.Step.{Stepped, refused, done, carried}
-use Rattle.machine.specs.Run.{runFrom}
+use lib.Seq.{sets, set-getD}
+use Rattle.plain.specs.Answer.{Answer, refuses, gives}
+use Rattle.plain.specs.Choice.{pick, both, decided}
+use Rattle.numbers.specs.Bytes.{numberAt, bytesOf}
+use Rattle.links.specs.Depths.{cellsDepth, returnsDepth, subroutinesDepth, exceptionsDepth}
+use Rattle.links.specs.Actions.{calledFrame}
+use Rattle.links.specs.Linked.{noFrame, noLevel, frameAt, levelAt, copyOfR, copyOfS, copyOfP}
+use Rattle.links.specs.declared.Frame.{Frame}
+use Rattle.links.specs.declared.Level.{Level}
+use Rattle.links.specs.declared.Links.{Links}
+use Rattle.machine.specs.Codes.{entryAt, table, cyclesOf, LINK, THROW, FETCH, STORE}
+use Rattle.machine.specs.Memory.{size, placeOf}
+use Rattle.machine.specs.Rows.{nothing, aReturnCell, aPlace, aDivisor, Lack-discrete, rowOf}
+use Rattle.machine.specs.Step.{Stepped, refused, done, costOf, carried}
+use Rattle.machine.specs.Laws.Prices.{by-code}
 use Rattle.machine.specs.declared.Machine.{Machine}
-use Rattle.machine.specs.declared.Ran.{Ran}
-use Rattle.run.specs.Promises.{machineOf, linksOf, inside, ranOf, afterOf}
-use Rattle.run.specs.Verdicts.{pushable, readable, callable, catchable, sAfterPop, eAfterDropOf, eAfterPop}
-use Rattle.run.specs.Settled.{checkedBy}
-use Rattle.run.specs.declared.Checked.{Checked}
-use Rattle.run.specs.declared.Checked.the-variants.{Fine, Refused}
-use Rattle.run.proofs.Linked.{push-at, copy-at, pop-at, catch-at, call-at, call-top-at, reset-at, finish-at, exit-at}
-use Rattle.run.proofs.Loop.{Here}
-use Rattle.run.proofs.Turning.{Spot, machineAt, Ready, again, leaves}
+use Rattle.machine.specs.declared.Width.{Width}
+use Rattle.machine.specs.declared.Place.{Place}
+use Rattle.machine.specs.declared.Place.the-variants.{Memory, Local, Cell, Nowhere}
+use Rattle.run.specs.Accesses.{widthOf, spotOf, reachOf}
+use Rattle.run.specs.Answers.{stepBy}
+use Rattle.run.specs.Machines.{machineOf, linksOf, inside}
+use Rattle.run.specs.Promises.{Carries, Spells, Unaltered}
+use Rattle.run.specs.Registers.{machineIn, movedTo, haltedBy}
+use Rattle.run.specs.Verdicts.{pushable, readable, callable, catchable, throwable, exitable, sAfterPop, eAfterDropOf, eAfterPop}
+use Rattle.run.specs.declared.Registers.{Registers}
+use Rattle.run.specs.declared.Spot.{Spot}
+use Rattle.run.specs.declared.Spot.the-variants as spot
+use Rattle.run.specs.declared.Stack.{Stack}
+use Rattle.run.specs.declared.Throw.{Throw}
+use Rattle.run.specs.declared.Throw.the-variants.{Zero, Code}
+use Rattle.run.proofs.Answered.{Acts, one-check, two-checks, three-checks, four-checks}
+use Rattle.run.proofs.Drops.{positive, drop-same, pop-s, pop-e}
+use Rattle.run.proofs.Rounds.{Round, Found, ends}
 
-module _ {mem₀ : List ℕ} {m₀ : Machine} {budget : ℕ} {x : Spot} {code operand next : ℕ} (ready : Ready mem₀ m₀ budget x code operand next) where
-  -- >R
-  abbrev pushed-machine : Machine
-  pushed-machine = machineOf (x .cells) (x .p - 1) (linksOf (set (x .returns) (x .r) (getD (x .cells) (x .p - 1) 0)) (x .r + 1) (x .frames) (x .s) (x .levels) (x .e)) next (x .flag)
+-- one of three codes
+abbrev pub OneOf : ℕ → ℕ → ℕ → ℕ → Type 0
+OneOf a b d code = (code ≡ a) ⊎ ((code ≡ b) ⊎ (code ≡ d))
 
-  push-carried : code ≡ 0x07 → carried (inside code operand next) (x .mem) (machineAt x) ≡
-      checkedBy (pushable (x .p) (x .r)) (done (x .mem) pushed-machine (cyclesOf code))
-  push-carried key =
-      subst⁻¹
-      (λ (k : ℕ). carried (inside k operand next) (x .mem) (machineAt x) ≡ checkedBy (pushable (x .p) (x .r)) (done (x .mem) pushed-machine (cyclesOf k)))
-      key
-      (push-at operand next (x .mem) (x .cells) (x .p) (x .returns) (x .r) (x .frames) (x .s) (x .levels) (x .e) (x .counter) (x .flag) (ready .here .formed .p-within))
+fetch-spelled : (code : ℕ) → OneOf 0x2D 0x2F 0x31 code → Spells code (FETCH (widthOf code)) 1
+unfolding entryAt table
+fetch-spelled code (inl e) = record { known = rw e; names = rw e; asks = rw e }
+fetch-spelled code (inr (inl e)) = record { known = rw e; names = rw e; asks = rw e }
+fetch-spelled code (inr (inr e)) = record { known = rw e; names = rw e; asks = rw e }
 
-  pub push-again : code ≡ 0x07 → pushable (x .p) (x .r) ≡ Fine → (n′ c′ : ℕ) → n′ ≡ x .steps .0 + 1 → c′ ≡ x .cycles .0 + cyclesOf code →
-      Here mem₀ m₀ budget (x .mem) pushed-machine n′ c′
-  push-again key fine n′ c′ en ec =
-      again ready (x .mem) pushed-machine (cyclesOf code) n′ c′
-      (push-carried key ∙ ap (λ (v : Checked). checkedBy v (done (x .mem) pushed-machine (cyclesOf code))) fine) en ec
+store-spelled : (code : ℕ) → OneOf 0x2E 0x30 0x32 code → Spells code (STORE (widthOf code)) 2
+unfolding entryAt table
+store-spelled code (inl e) = record { known = rw e; names = rw e; asks = rw e }
+store-spelled code (inr (inl e)) = record { known = rw e; names = rw e; asks = rw e }
+store-spelled code (inr (inr e)) = record { known = rw e; names = rw e; asks = rw e }
 
-  pub push-leaves : code ≡ 0x07 → (k : ℕ) → pushable (x .p) (x .r) ≡ Refused k → (ran : Ran) (m : Machine) (number : ℕ) →
-      ran ≡ ranOf number (x .steps) (x .cycles) m → m ≡ machineAt x → number ≡ k → afterOf (x .mem) ran ≡ runFrom budget mem₀ m₀ 0 0
-  push-leaves key k bad ran m number e em en =
-      leaves ready ran m number k e em en
-      (push-carried key ∙ ap (λ (v : Checked). checkedBy v (done (x .mem) pushed-machine (cyclesOf code))) bad)
+throw-spelled : (code : ℕ) → code ≡ 0x0D → Spells code (LINK THROW) 1
+unfolding entryAt table
+throw-spelled code e = record { known = rw e; names = rw e; asks = rw e }
 
-  -- R@
-  abbrev copied-machine : Machine
-  copied-machine = machineOf (set (x .cells) (x .p) (getD (x .returns) (x .r - 1) 0)) (x .p + 1) (linksOf (x .returns) (x .r) (x .frames) (x .s) (x .levels) (x .e)) next (x .flag)
+-- neither is THROW, whose cost is not always the table's
+no-throw : {a b d code : ℕ} → OneOf a b d code → (a ≡ 0x0D → ⊥) → (b ≡ 0x0D → ⊥) → (d ≡ 0x0D → ⊥) → code ≡ 0x0D → ⊥
+no-throw (inl e) x y z h = x (sym e ∙ h)
+no-throw (inr (inl e)) x y z h = y (sym e ∙ h)
+no-throw (inr (inr e)) x y z h = z (sym e ∙ h)
 
-  copy-carried : code ≡ 0x08 → carried (inside code operand next) (x .mem) (machineAt x) ≡
-      checkedBy (readable (x .p) (x .r)) (done (x .mem) copied-machine (cyclesOf code))
-  copy-carried key =
-      subst⁻¹
-      (λ (k : ℕ). carried (inside k operand next) (x .mem) (machineAt x) ≡ checkedBy (readable (x .p) (x .r)) (done (x .mem) copied-machine (cyclesOf k)))
-      key
-      (copy-at operand next (x .mem) (x .cells) (x .p) (x .returns) (x .r) (x .frames) (x .s) (x .levels) (x .e) (x .counter) (x .flag) (ready .here .formed .p-within))
+-- R@ and R> lack a return cell where there is none, and nothing else
+returnless : (b : Bool) → decided (Lack-discrete (pick b aReturnCell nothing) aReturnCell) ≡ b
+returnless true = refl
+returnless false = refl
 
-  pub copy-again : code ≡ 0x08 → readable (x .p) (x .r) ≡ Fine → (n′ c′ : ℕ) → n′ ≡ x .steps .0 + 1 → c′ ≡ x .cycles .0 + cyclesOf code →
-      Here mem₀ m₀ budget (x .mem) copied-machine n′ c′
-  copy-again key fine n′ c′ en ec =
-      again ready (x .mem) copied-machine (cyclesOf code) n′ c′
-      (copy-carried key ∙ ap (λ (v : Checked). checkedBy v (done (x .mem) copied-machine (cyclesOf code))) fine) en ec
+placed : (b : Bool) → decided (Lack-discrete (pick b aReturnCell nothing) aPlace) ≡ false
+placed true = refl
+placed false = refl
 
-  pub copy-leaves : code ≡ 0x08 → (k : ℕ) → readable (x .p) (x .r) ≡ Refused k → (ran : Ran) (m : Machine) (number : ℕ) →
-      ran ≡ ranOf number (x .steps) (x .cycles) m → m ≡ machineAt x → number ≡ k → afterOf (x .mem) ran ≡ runFrom budget mem₀ m₀ 0 0
-  copy-leaves key k bad ran m number e em en =
-      leaves ready ran m number k e em en
-      (copy-carried key ∙ ap (λ (v : Checked). checkedBy v (done (x .mem) copied-machine (cyclesOf code))) bad)
+divided : (b : Bool) → decided (Lack-discrete (pick b aReturnCell nothing) aDivisor) ≡ false
+divided true = refl
+divided false = refl
 
-  -- R>
-  abbrev popped-machine : Machine
-  popped-machine = machineOf (set (x .cells) (x .p) (getD (x .returns) (x .r - 1) 0)) (x .p + 1) (linksOf (x .returns) (x .r - 1) (x .frames) (sAfterPop (x .r - 1) (x .s) (copyOfR (x .frames) (x .s))) (x .levels) (eAfterPop (sAfterPop (x .r - 1) (x .s) (copyOfR (x .frames) (x .s))) (x .s) (x .e) (copyOfS (x .levels) (x .e)))) next (x .flag)
+module _ {mem₀ : List ℕ} {m₀ : Machine} {budget : ℕ} {mem cells returns : List ℕ} {frames : List Frame} {levels : List Level} {g : Registers}
+    {code operand next : ℕ} (found : Found mem₀ m₀ budget mem cells returns frames levels g code operand next)
+  where
+    abbrev here : Machine
+    here = machineIn cells returns frames levels g
 
-  pop-carried : code ≡ 0x09 → carried (inside code operand next) (x .mem) (machineAt x) ≡
-      checkedBy (readable (x .p) (x .r)) (done (x .mem) popped-machine (cyclesOf code))
-  pop-carried key =
-      subst⁻¹
-      (λ (k : ℕ). carried (inside k operand next) (x .mem) (machineAt x) ≡ checkedBy (readable (x .p) (x .r)) (done (x .mem) popped-machine (cyclesOf k)))
-      key
-      (pop-at operand next (x .mem) (x .cells) (x .p) (x .returns) (x .r) (x .frames) (x .s) (x .levels) (x .e) (x .counter) (x .flag) (ready .here .formed .p-within))
+    abbrev links : Links
+    links = linksOf returns (g .r) frames (g .s) levels (g .e)
 
-  pop-again : code ≡ 0x09 → readable (x .p) (x .r) ≡ Fine → (n′ c′ : ℕ) → n′ ≡ x .steps .0 + 1 → c′ ≡ x .cycles .0 + cyclesOf code →
-      Here mem₀ m₀ budget (x .mem) popped-machine n′ c′
-  pop-again key fine n′ c′ en ec =
-      again ready (x .mem) popped-machine (cyclesOf code) n′ c′
-      (pop-carried key ∙ ap (λ (v : Checked). checkedBy v (done (x .mem) popped-machine (cyclesOf code))) fine) en ec
+    abbrev Does : {A : Type 0} → Answer A → (A → Stepped) → Type 0
+    Does said after = Acts (inside code operand next) mem here said after
 
-  pub pop-leaves : code ≡ 0x09 → (k : ℕ) → readable (x .p) (x .r) ≡ Refused k → (ran : Ran) (m : Machine) (number : ℕ) →
-      ran ≡ ranOf number (x .steps) (x .cycles) m → m ≡ machineAt x → number ≡ k → afterOf (x .mem) ran ≡ runFrom budget mem₀ m₀ 0 0
-  pop-leaves key k bad ran m number e em en =
-      leaves ready ran m number k e em en
-      (pop-carried key ∙ ap (λ (v : Checked). checkedBy v (done (x .mem) popped-machine (cyclesOf code))) bad)
+    -- an instruction that leaves no cells behind has room
+    room : (keeps : ℕ) → keeps ≤ g .p → ltb cellsDepth (keeps + 0) ≡ false
+    room keeps h =
+        let top = found .round .p-within in
+        le-ltb cellsDepth (keeps + 0) (omega arith)
 
-  -- CATCH
-  abbrev caught-machine : Machine
-  caught-machine = machineOf (x .cells) (x .p - 1) (linksOf (set (x .returns) (x .r) next) (x .r + 1) (set (x .frames) (x .s + 1) (calledFrame (x .r) next)) (x .s + 1) (set (x .levels) (x .e + 1) (caughtLevel (getD (x .levels) (x .e) noLevel .cells) (x .s) (x .p) next)) (x .e + 1)) (getD (x .cells) (x .p - 1) 0) (x .flag)
+    -- >R
+    pub push-acts : code ≡ 0x07 →
+        Does (pushable (g .p) (g .r))
+        (λ u. done mem (machineIn cells (set returns (g .r) (getD cells (g .p - 1) 0)) frames levels (movedTo g (g .p - 1) (g .r + 1) (g .s) (g .e) next (g .flag))) (cyclesOf code))
+    unfolding carried rowOf entryAt table pushable
+    push-acts key =
+        let depth : g .p - 1 + 0 ≡ g .p - 1 = omega arith in
+        record { is = rw (key, room (g .p - 1) (omega arith), depth, add-one (g .r)) (two-checks (ltb (g .p) 1) (leb returnsDepth (g .r)) 5 9 _) }
 
-  catch-carried : code ≡ 0x0B → carried (inside code operand next) (x .mem) (machineAt x) ≡
-      checkedBy (catchable (x .p) (x .r) (x .s) (x .e)) (done (x .mem) caught-machine (cyclesOf code))
-  catch-carried key =
-      subst⁻¹
-      (λ (k : ℕ). carried (inside k operand next) (x .mem) (machineAt x) ≡ checkedBy (catchable (x .p) (x .r) (x .s) (x .e)) (done (x .mem) caught-machine (cyclesOf k)))
-      key
-      (catch-at operand next (x .mem) (x .cells) (x .p) (x .returns) (x .r) (x .frames) (x .s) (x .levels) (x .e) (x .counter) (x .flag) (ready .here .formed .p-within))
+    -- R@ and R>: the test of room is the definition's
+    room-test : ltb cellsDepth (g .p - 0 + 1) ≡ leb cellsDepth (g .p)
+    room-test =
+        let more : g .p - 0 + 1 ≡ suc (g .p) = omega arith in
+        ap (ltb cellsDepth) more ∙ leb·suc-suc cellsDepth (g .p)
 
-  catch-again : code ≡ 0x0B → catchable (x .p) (x .r) (x .s) (x .e) ≡ Fine → (n′ c′ : ℕ) → n′ ≡ x .steps .0 + 1 → c′ ≡ x .cycles .0 + cyclesOf code →
-      Here mem₀ m₀ budget (x .mem) caught-machine n′ c′
-  catch-again key fine n′ c′ en ec =
-      again ready (x .mem) caught-machine (cyclesOf code) n′ c′
-      (catch-carried key ∙ ap (λ (v : Checked). checkedBy v (done (x .mem) caught-machine (cyclesOf code))) fine) en ec
+    pub copy-acts : code ≡ 0x08 →
+        Does (readable (g .p) (g .r))
+        (λ u. done mem (machineIn (set cells (g .p) (getD returns (g .r - 1) 0)) returns frames levels (movedTo g (g .p + 1) (g .r) (g .s) (g .e) next (g .flag))) (cyclesOf code))
+    unfolding carried rowOf entryAt table readable
+    copy-acts key =
+        let none : 0 ≤ g .p = omega arith in
+        let same : g .p - 0 ≡ g .p = omega arith in
+        record { is = rw (key, le-ltb (g .p) 0 none, returnless (eqb (g .r) 0), placed (eqb (g .r) 0), divided (eqb (g .r) 0), room-test, same) (two-checks (eqb (g .r) 0) (leb cellsDepth (g .p)) 6 8 _) }
 
-  pub catch-leaves : code ≡ 0x0B → (k : ℕ) → catchable (x .p) (x .r) (x .s) (x .e) ≡ Refused k → (ran : Ran) (m : Machine) (number : ℕ) →
-      ran ≡ ranOf number (x .steps) (x .cycles) m → m ≡ machineAt x → number ≡ k → afterOf (x .mem) ran ≡ runFrom budget mem₀ m₀ 0 0
-  catch-leaves key k bad ran m number e em en =
-      leaves ready ran m number k e em en
-      (catch-carried key ∙ ap (λ (v : Checked). checkedBy v (done (x .mem) caught-machine (cyclesOf code))) bad)
+    pub pop-acts : code ≡ 0x09 → {lower left : ℕ} → lower ≡ sAfterPop (g .r - 1) (g .s) (copyOfR frames (g .s)) →
+        left ≡ eAfterPop lower (g .s) (g .e) (copyOfS levels (g .e)) →
+        Does (readable (g .p) (g .r))
+        (λ u. done mem (machineIn (set cells (g .p) (getD returns (g .r - 1) 0)) returns frames levels (movedTo g (g .p + 1) (g .r - 1) lower left next (g .flag))) (cyclesOf code))
+    unfolding carried rowOf entryAt table readable
+    pop-acts key es ee =
+        let none : 0 ≤ g .p = omega arith in
+        let same : g .p - 0 ≡ g .p = omega arith in
+        record {
+          is =
+              rw (key, le-ltb (g .p) 0 none, returnless (eqb (g .r) 0), placed (eqb (g .r) 0), divided (eqb (g .r) 0), room-test, same, ee, es, pop-e (g .r) (g .s) frames (g .e) levels, pop-s (g .r) (g .s) frames)
+              (two-checks (eqb (g .r) 0) (leb cellsDepth (g .p)) 6 8 _);
+        }
 
-  -- JSL
-  abbrev called-machine : Machine
-  called-machine = machineOf (x .cells) (x .p) (linksOf (set (x .returns) (x .r) next) (x .r + 1) (set (x .frames) (x .s + 1) (calledFrame (x .r) next)) (x .s + 1) (x .levels) (x .e)) operand (x .flag)
+    -- CATCH
+    pub catch-acts : code ≡ 0x0B → {address : ℕ} → address ≡ (next + 1) % 2 ^ 32 →
+        Does (catchable (g .p) (g .r) (g .s) (g .e))
+        (λ u.
+        done mem
+        (machineIn cells (set returns (g .r) next) (set frames (g .s + 1) (calledFrame (g .r) next))
+        (set levels (g .e + 1) (record { cells = getD levels (g .e) noLevel .cells; s = g .s; p = g .p - 1; address = address }))
+        (movedTo g (g .p - 1) (g .r + 1) (g .s + 1) (g .e + 1) (getD cells (g .p - 1) 0) (g .flag)))
+        (cyclesOf code))
+    unfolding carried rowOf entryAt table catchable
+    catch-acts key ea =
+        let depth : g .p - 1 + 0 ≡ g .p - 1 = omega arith in
+        record {
+          is =
+              rw (key, ea, room (g .p - 1) (omega arith), depth, add-one (g .r), add-one (g .s), add-one (g .e))
+              (four-checks (ltb (g .p) 1) (leb returnsDepth (g .r)) (leb subroutinesDepth (g .s)) (leb exceptionsDepth (g .e)) 5 9 10 11 _);
+        }
 
-  call-carried : code ≡ 0x38 → carried (inside code operand next) (x .mem) (machineAt x) ≡
-      checkedBy (callable 0 (x .p) (x .r) (x .s)) (done (x .mem) called-machine (cyclesOf code))
-  call-carried key =
-      subst⁻¹
-      (λ (k : ℕ). carried (inside k operand next) (x .mem) (machineAt x) ≡ checkedBy (callable 0 (x .p) (x .r) (x .s)) (done (x .mem) called-machine (cyclesOf k)))
-      key
-      (call-at operand next (x .mem) (x .cells) (x .p) (x .returns) (x .r) (x .frames) (x .s) (x .levels) (x .e) (x .counter) (x .flag) (ready .here .formed .p-within))
+    -- RESETSP
+    pub reset-acts : code ≡ 0x0C →
+        Does {A = Unit {0}} (gives tt) (λ u. done mem (machineIn cells returns frames levels (movedTo g 0 0 0 0 next (g .flag))) (cyclesOf code))
+    unfolding carried rowOf entryAt table
+    reset-acts key =
+        let none : 0 ≤ g .p = omega arith in
+        record { is = rw (key, le-ltb (g .p) 0 none) }
 
-  pub call-again : code ≡ 0x38 → callable 0 (x .p) (x .r) (x .s) ≡ Fine → (n′ c′ : ℕ) → n′ ≡ x .steps .0 + 1 → c′ ≡ x .cycles .0 + cyclesOf code →
-      Here mem₀ m₀ budget (x .mem) called-machine n′ c′
-  call-again key fine n′ c′ en ec =
-      again ready (x .mem) called-machine (cyclesOf code) n′ c′
-      (call-carried key ∙ ap (λ (v : Checked). checkedBy v (done (x .mem) called-machine (cyclesOf code))) fine) en ec
+    -- THROW of 0, and of a code to the top exception level
+    abbrev pub thrownBy : Throw → Stepped
+    thrownBy Zero = done mem (machineIn cells returns frames levels (movedTo g (g .p - 1) (g .r) (g .s) (g .e) next (g .flag))) 1
+    thrownBy (Code n) =
+        let level = getD levels (g .e) noLevel in
+        done mem
+        (machineIn (set cells (level .p) n) returns frames levels
+        (movedTo g (level .p + 1) (getD frames (level .s + 1) noFrame .r) (level .s) (g .e - 1) (level .address) (g .flag)))
+        (cyclesOf code)
 
-  pub call-leaves : code ≡ 0x38 → (k : ℕ) → callable 0 (x .p) (x .r) (x .s) ≡ Refused k → (ran : Ran) (m : Machine) (number : ℕ) →
-      ran ≡ ranOf number (x .steps) (x .cycles) m → m ≡ machineAt x → number ≡ k → afterOf (x .mem) ran ≡ runFrom budget mem₀ m₀ 0 0
-  call-leaves key k bad ran m number e em en =
-      leaves ready ran m number k e em en
-      (call-carried key ∙ ap (λ (v : Checked). checkedBy v (done (x .mem) called-machine (cyclesOf code))) bad)
+    pub throw-acts : code ≡ 0x0D → Does (throwable cells (g .p) (g .e)) thrownBy
+    unfolding carried rowOf throwable
+    throw-acts key = record { is = go (ltb (g .p) 1) (eqb (getD cells (g .p - 1) 0) 0) (eqb (g .e) 0) refl refl refl }
+      where
+        e : Spells code (LINK THROW) 1
+        e = throw-spelled code key
 
-  -- JSR
-  abbrev called-top-machine : Machine
-  called-top-machine = machineOf (x .cells) (x .p - 1) (linksOf (set (x .returns) (x .r) next) (x .r + 1) (set (x .frames) (x .s + 1) (calledFrame (x .r) next)) (x .s + 1) (x .levels) (x .e)) (getD (x .cells) (x .p - 1) 0) (x .flag)
+        go : (a b z : Bool) → ltb (g .p) 1 ≡ a → eqb (getD cells (g .p - 1) 0) 0 ≡ b → eqb (g .e) 0 ≡ z →
+            carried (inside code operand next) mem here ≡ stepBy (throwable cells (g .p) (g .e)) thrownBy
+        go true true z few zero none = rw (e .names, zero, e .known, e .asks, few)
+        go true false z few zero none = rw (e .names, zero, e .known, e .asks, few)
+        go false true z few zero none =
+            let depth : g .p - 1 + 0 ≡ g .p - 1 = omega arith in
+            rw (e .names, zero, e .known, e .asks, few, room (g .p - 1) (omega arith), depth, eq-eqb code 0x0D key)
+        go false false true few zero none = rw (e .names, zero, e .known, e .asks, few, none)
+        go false false false few zero none =
+            let held = found .round .catcher (positive (g .e) (eqb-false (g .e) 0 none)) .0 in
+            let top : copyOfP levels (g .e) + 1 ≤ cellsDepth = omega arith in
+            rw (e .names, zero, e .known, e .asks, few, none, le-ltb cellsDepth (copyOfP levels (g .e) + 1) top, eq-eqb code 0x0D key, add-one (copyOfS levels (g .e)))
 
-  call-top-carried : code ≡ 0x39 → carried (inside code operand next) (x .mem) (machineAt x) ≡
-      checkedBy (callable 1 (x .p) (x .r) (x .s)) (done (x .mem) called-top-machine (cyclesOf code))
-  call-top-carried key =
-      subst⁻¹
-      (λ (k : ℕ). carried (inside k operand next) (x .mem) (machineAt x) ≡ checkedBy (callable 1 (x .p) (x .r) (x .s)) (done (x .mem) called-top-machine (cyclesOf k)))
-      key
-      (call-top-at operand next (x .mem) (x .cells) (x .p) (x .returns) (x .r) (x .frames) (x .s) (x .levels) (x .e) (x .counter) (x .flag) (ready .here .formed .p-within))
+    -- EXIT
+    pub exit-acts : code ≡ 0x3D → {left : ℕ} → left ≡ eAfterDropOf (g .s - 1) (g .e) (copyOfS levels (g .e)) →
+        Does (exitable (g .s))
+        (λ u. done mem (machineIn cells returns frames levels (movedTo g (g .p) (copyOfR frames (g .s)) (g .s - 1) left (getD frames (g .s) noFrame .address) (g .flag))) (cyclesOf code))
+    unfolding carried rowOf entryAt table exitable
+    exit-acts key ee =
+        let none : 0 ≤ g .p = omega arith in
+        let depth : g .p - 0 + 0 ≡ g .p = omega arith in
+        let same : g .p - 0 ≤ g .p = omega arith in
+        record { is = rw (key, le-ltb (g .p) 0 none, room (g .p - 0) same, depth, ee, drop-same (g .s - 1) (g .e) levels) (one-check (eqb (g .s) 0) 0 _) }
 
-  pub call-top-again : code ≡ 0x39 → callable 1 (x .p) (x .r) (x .s) ≡ Fine → (n′ c′ : ℕ) → n′ ≡ x .steps .0 + 1 → c′ ≡ x .cycles .0 + cyclesOf code →
-      Here mem₀ m₀ budget (x .mem) called-top-machine n′ c′
-  call-top-again key fine n′ c′ en ec =
-      again ready (x .mem) called-top-machine (cyclesOf code) n′ c′
-      (call-top-carried key ∙ ap (λ (v : Checked). checkedBy v (done (x .mem) called-top-machine (cyclesOf code))) fine) en ec
+    -- JSL and JSR
+    abbrev pub calledTo : ℕ → ℕ → Stepped
+    calledTo p to =
+        done mem (machineIn cells (set returns (g .r) next) (set frames (g .s + 1) (calledFrame (g .r) next)) levels (movedTo g p (g .r + 1) (g .s + 1) (g .e) to (g .flag))) (cyclesOf code)
 
-  pub call-top-leaves : code ≡ 0x39 → (k : ℕ) → callable 1 (x .p) (x .r) (x .s) ≡ Refused k → (ran : Ran) (m : Machine) (number : ℕ) →
-      ran ≡ ranOf number (x .steps) (x .cycles) m → m ≡ machineAt x → number ≡ k → afterOf (x .mem) ran ≡ runFrom budget mem₀ m₀ 0 0
-  call-top-leaves key k bad ran m number e em en =
-      leaves ready ran m number k e em en
-      (call-top-carried key ∙ ap (λ (v : Checked). checkedBy v (done (x .mem) called-top-machine (cyclesOf code))) bad)
+    pub call-acts : code ≡ 0x38 → Does (callable 0 (g .p) (g .r) (g .s)) (λ u. calledTo (g .p) operand)
+    unfolding carried rowOf entryAt table callable
+    call-acts key =
+        let none : 0 ≤ g .p = omega arith in
+        let depth : g .p - 0 + 0 ≡ g .p = omega arith in
+        record {
+          is =
+              rw (key, le-ltb (g .p) 0 none, room (g .p - 0) (omega arith), depth, add-one (g .r), add-one (g .s))
+              (two-checks (leb returnsDepth (g .r)) (leb subroutinesDepth (g .s)) 9 10 _);
+        }
 
-  -- RESETSP
-  pub reset-again : code ≡ 0x0C → (n′ c′ : ℕ) → n′ ≡ x .steps .0 + 1 → c′ ≡ x .cycles .0 + cyclesOf code →
-      Here mem₀ m₀ budget (x .mem) (machineOf (x .cells) 0 (linksOf (x .returns) 0 (x .frames) 0 (x .levels) 0) next (x .flag)) n′ c′
-  reset-again key n′ c′ en ec =
-      again ready (x .mem) (machineOf (x .cells) 0 (linksOf (x .returns) 0 (x .frames) 0 (x .levels) 0) next (x .flag)) (cyclesOf code) n′ c′
-      (subst⁻¹
-      (λ (k : ℕ).
-      carried (inside k operand next) (x .mem) (machineAt x) ≡
-      done (x .mem) (machineOf (x .cells) 0 (linksOf (x .returns) 0 (x .frames) 0 (x .levels) 0) next (x .flag)) (cyclesOf k))
-      key
-      (reset-at operand next (x .mem) (x .cells) (x .p) (x .returns) (x .r) (x .frames) (x .s) (x .levels) (x .e) (x .counter) (x .flag) (ready .here .formed .p-within)))
-      en ec
+    pub call-top-acts : code ≡ 0x39 → Does (callable 1 (g .p) (g .r) (g .s)) (λ u. calledTo (g .p - 1) (getD cells (g .p - 1) 0))
+    unfolding carried rowOf entryAt table callable
+    call-top-acts key =
+        let depth : g .p - 1 + 0 ≡ g .p - 1 = omega arith in
+        record {
+          is =
+              rw (key, room (g .p - 1) (omega arith), depth, add-one (g .r), add-one (g .s))
+              (three-checks (ltb (g .p) 1) (leb returnsDepth (g .r)) (leb subroutinesDepth (g .s)) 5 9 10 _);
+        }
 
-  -- EXIT
-  pub finish-leaves : code ≡ 0x3D → x .s ≡ 0 → (ran : Ran) (m : Machine) →
-      ran ≡ ranOf 0 (x .steps) (x .cycles) m → m ≡ machineAt x → afterOf (x .mem) ran ≡ runFrom budget mem₀ m₀ 0 0
-  finish-leaves key none ran m e em =
-      leaves ready ran m 0 0 e em refl
-      (subst⁻¹ (λ (k : ℕ). carried (inside k operand next) (x .mem) (machineAt x) ≡ refused 0) key
-      (finish-at operand next (x .mem) (x .cells) (x .p) (x .returns) (x .r) (x .frames) (x .s) (x .levels) (x .e) (x .counter) (x .flag) (ready .here .formed .p-within) none))
+    -- only THROW's cost is not the table's
+    cost : (code ≡ 0x0D → ⊥) → costOf (inside code operand next) here ≡ cyclesOf code
+    cost other = by-code (inside code operand next) here (λ h z. other h)
 
-  abbrev exited-machine : Machine
-  exited-machine =
-      machineOf (x .cells) (x .p)
-      (linksOf (x .returns) (copyOfR (x .frames) (x .s)) (x .frames) (x .s - 1) (x .levels)
-      (eAfterDropOf (x .s - 1) (x .e) (copyOfS (x .levels) (x .e))))
-      (getD (x .frames) (x .s) noFrame .address) (x .flag)
+    -- FETCH: the top cell becomes what is found
+    abbrev pub fetchedAs : ℕ → Stepped
+    fetchedAs value =
+        done mem (machineIn (set cells (g .p - 1) value) returns frames levels (movedTo g (g .p) (g .r) (g .s) (g .e) next (g .flag))) (cyclesOf code)
 
-  exit-again : code ≡ 0x3D → 0 < x .s → (n′ c′ : ℕ) → n′ ≡ x .steps .0 + 1 → c′ ≡ x .cycles .0 + cyclesOf code →
-      Here mem₀ m₀ budget (x .mem) exited-machine n′ c′
-  exit-again key some n′ c′ en ec =
-      again ready (x .mem) exited-machine (cyclesOf code) n′ c′
-      (subst⁻¹ (λ (k : ℕ). carried (inside k operand next) (x .mem) (machineAt x) ≡ done (x .mem) exited-machine (cyclesOf k)) key
-      (exit-at operand next (x .mem) (x .cells) (x .p) (x .returns) (x .r) (x .frames) (x .s) (x .levels) (x .e) (x .counter) (x .flag) (ready .here .formed .p-within) some))
-      en ec
+    abbrev pub fetchedBy : Width → Spot → Stepped
+    fetchedBy w (spot.Memory a) = fetchedAs (numberAt (size w) mem a)
+    fetchedBy w (spot.Local k) = fetchedAs (getD (getD frames (g .s) noFrame .locals) k 0)
+    fetchedBy w (spot.Cell k) = fetchedAs (getD (getD levels (g .e) noLevel .cells) k 0)
 
-  -- the same with the pointers and the throw address as the code's own functions give them
-  pub pop-again-at : code ≡ 0x09 → readable (x .p) (x .r) ≡ Fine → (lower e′ : ℕ) → lower ≡ (sAfterPop (x .r - 1) (x .s) (copyOfR (x .frames) (x .s))) →
-      e′ ≡ eAfterPop lower (x .s) (x .e) (copyOfS (x .levels) (x .e)) → (n′ c′ : ℕ) → n′ ≡ x .steps .0 + 1 → c′ ≡ x .cycles .0 + cyclesOf code →
-      Here mem₀ m₀ budget (x .mem)
-      (machineOf (set (x .cells) (x .p) (getD (x .returns) (x .r - 1) 0)) (x .p + 1) (linksOf (x .returns) (x .r - 1) (x .frames) lower (x .levels) e′) next (x .flag)) n′ c′
-  pop-again-at key fine lower e′ es ee n′ c′ en ec =
-      subst⁻¹
-      (λ (v : ℕ).
-      Here mem₀ m₀ budget (x .mem)
-      (machineOf (set (x .cells) (x .p) (getD (x .returns) (x .r - 1) 0)) (x .p + 1) (linksOf (x .returns) (x .r - 1) (x .frames) lower (x .levels) v) next (x .flag)) n′ c′)
-      ee
-      (subst⁻¹
-      (λ (v : ℕ).
-      Here mem₀ m₀ budget (x .mem)
-      (machineOf (set (x .cells) (x .p) (getD (x .returns) (x .r - 1) 0)) (x .p + 1)
-      (linksOf (x .returns) (x .r - 1) (x .frames) v (x .levels) (eAfterPop v (x .s) (x .e) (copyOfS (x .levels) (x .e)))) next (x .flag)) n′ c′)
-      es
-      (pop-again key fine n′ c′ en ec))
+    -- where there is a cell, one put in its place leaves the depth
+    depth : ltb (g .p) 1 ≡ false → g .p - 1 + 1 ≡ g .p
+    depth few = omega (arith, ltb-false (g .p) 1 few)
 
-  pub exit-again-at : code ≡ 0x3D → 0 < x .s → (e′ : ℕ) → e′ ≡ eAfterDropOf (x .s - 1) (x .e) (copyOfS (x .levels) (x .e)) →
-      (n′ c′ : ℕ) → n′ ≡ x .steps .0 + 1 → c′ ≡ x .cycles .0 + cyclesOf code →
-      Here mem₀ m₀ budget (x .mem)
-      (machineOf (x .cells) (x .p) (linksOf (x .returns) (copyOfR (x .frames) (x .s)) (x .frames) (x .s - 1) (x .levels) e′)
-      (getD (x .frames) (x .s) noFrame .address) (x .flag)) n′ c′
-  exit-again-at key some e′ ee n′ c′ en ec =
-      subst⁻¹
-      (λ (v : ℕ).
-      Here mem₀ m₀ budget (x .mem)
-      (machineOf (x .cells) (x .p) (linksOf (x .returns) (copyOfR (x .frames) (x .s)) (x .frames) (x .s - 1) (x .levels) v)
-      (getD (x .frames) (x .s) noFrame .address) (x .flag)) n′ c′)
-      ee
-      (exit-again key some n′ c′ en ec)
+    full : ltb (g .p) 1 ≡ false → ltb cellsDepth (g .p - 1 + 1) ≡ false
+    full few =
+        let top = found .round .p-within in
+        le-ltb cellsDepth (g .p - 1 + 1) (omega (arith, depth few))
 
-  pub catch-again-at : code ≡ 0x0B → catchable (x .p) (x .r) (x .s) (x .e) ≡ Fine → (address : ℕ) → address ≡ (next + 1) % 2 ^ 32 →
-      (n′ c′ : ℕ) → n′ ≡ x .steps .0 + 1 → c′ ≡ x .cycles .0 + cyclesOf code →
-      Here mem₀ m₀ budget (x .mem)
-      (machineOf (x .cells) (x .p - 1)
-      (linksOf (set (x .returns) (x .r) next) (x .r + 1) (set (x .frames) (x .s + 1) (calledFrame (x .r) next)) (x .s + 1)
-      (set (x .levels) (x .e + 1) (record { cells = getD (x .levels) (x .e) noLevel .cells; s = x .s; p = x .p - 1; address = address }))
-      (x .e + 1))
-      (getD (x .cells) (x .p - 1) 0) (x .flag)) n′ c′
-  catch-again-at key fine address ea n′ c′ en ec =
-      subst⁻¹
-      (λ (v : ℕ).
-      Here mem₀ m₀ budget (x .mem)
-      (machineOf (x .cells) (x .p - 1)
-      (linksOf (set (x .returns) (x .r) next) (x .r + 1) (set (x .frames) (x .s + 1) (calledFrame (x .r) next)) (x .s + 1)
-      (set (x .levels) (x .e + 1) (record { cells = getD (x .levels) (x .e) noLevel .cells; s = x .s; p = x .p - 1; address = v }))
-      (x .e + 1))
-      (getD (x .cells) (x .p - 1) 0) (x .flag)) n′ c′)
-      ea
-      (catch-again key fine n′ c′ en ec)
+    pub fetch-acts : OneOf 0x2D 0x2F 0x31 code → {w : Width} → w ≡ widthOf code → Does (reachOf 1 w cells (g .p)) (fetchedBy w)
+    unfolding carried rowOf reachOf
+    fetch-acts key {w} ew =
+        subst⁻¹ (λ (v : Width). Does (reachOf 1 v cells (g .p)) (fetchedBy v)) ew
+        (record { is = go (ltb (g .p) 1) refl (placeOf (widthOf code) (getD cells (g .p - 1) 0)) refl })
+      where
+        e : Spells code (FETCH (widthOf code)) 1
+        e = fetch-spelled code key
+
+        paid : costOf (inside code operand next) here ≡ cyclesOf code
+        paid = cost (no-throw key (λ h. omega arith) (λ h. omega arith) (λ h. omega arith))
+
+        go : (a : Bool) → ltb (g .p) 1 ≡ a → (place : Place) → placeOf (widthOf code) (getD cells (g .p - 1) 0) ≡ place →
+            carried (inside code operand next) mem here ≡ stepBy (reachOf 1 (widthOf code) cells (g .p)) (fetchedBy (widthOf code))
+        go true few (Memory a) at = rw (e .names, at, e .known, e .asks, few)
+        go true few (Local k) at = rw (e .names, at, e .known, e .asks, few)
+        go true few (Cell k) at = rw (e .names, at, e .known, e .asks, few)
+        go true few Nowhere at = rw (e .names, at, e .known, e .asks, few)
+        go false few (Memory a) at = rw (e .names, at, e .known, e .asks, few, full few, depth few, paid)
+        go false few (Local k) at = rw (e .names, at, e .known, e .asks, few, full few, depth few, paid)
+        go false few (Cell k) at = rw (e .names, at, e .known, e .asks, few, full few, depth few, paid)
+        go false few Nowhere at = rw (e .names, at, e .known, e .asks, few, room (g .p - 1) (omega arith))
+
+    -- STORE: the value under the address goes to memory, to a local of level S or to a cell of level E
+    abbrev pub lowered : Registers
+    lowered = movedTo g (g .p - 2) (g .r) (g .s) (g .e) next (g .flag)
+
+    abbrev pub storedBy : Width → Spot → Stepped
+    storedBy w (spot.Memory a) = done (sets mem a (bytesOf (size w) (getD cells (g .p - 2) 0))) (machineIn cells returns frames levels lowered) (cyclesOf code)
+    storedBy w (spot.Local k) =
+        let frame = getD frames (g .s) noFrame in
+        let after : Frame = record { locals = set (frame .locals) k (getD cells (g .p - 2) 0); r = frame .r; address = frame .address } in
+        done mem (machineIn cells returns (set frames (g .s) after) levels lowered) (cyclesOf code)
+    storedBy w (spot.Cell k) =
+        let level = getD levels (g .e) noLevel in
+        let after : Level = record { cells = set (level .cells) k (getD cells (g .p - 2) 0); s = level .s; p = level .p; address = level .address } in
+        done mem (machineIn cells returns frames (set levels (g .e) after) lowered) (cyclesOf code)
+
+    pub written-there : (w : Width) (a : ℕ) {mem′ : List ℕ} → mem′ ≡ sets mem a (bytesOf (size w) (getD cells (g .p - 2) 0)) →
+        storedBy w (spot.Memory a) ≡ done mem′ (machineIn cells returns frames levels lowered) (cyclesOf code)
+    written-there w a e = ap (λ (l : List ℕ). done l (machineIn cells returns frames levels lowered) (cyclesOf code)) (sym e)
+
+    -- a store to a local leaves the exception cells as they are, and the other way round
+    same-level : set levels (g .e) (getD levels (g .e) noLevel) ≡ levels
+    same-level = set-getD levels (g .e) noLevel
+
+    same-frame : set frames (g .s) (getD frames (g .s) noFrame) ≡ frames
+    same-frame = set-getD frames (g .s) noFrame
+
+    pub store-acts : OneOf 0x2E 0x30 0x32 code → {w : Width} → w ≡ widthOf code → Does (reachOf 2 w cells (g .p)) (storedBy w)
+    unfolding carried rowOf reachOf
+    store-acts key {w} ew =
+        subst⁻¹ (λ (v : Width). Does (reachOf 2 v cells (g .p)) (storedBy v)) ew
+        (record { is = go (ltb (g .p) 2) refl (placeOf (widthOf code) (getD cells (g .p - 1) 0)) refl })
+      where
+        e : Spells code (STORE (widthOf code)) 2
+        e = store-spelled code key
+
+        paid : costOf (inside code operand next) here ≡ cyclesOf code
+        paid = cost (no-throw key (λ h. omega arith) (λ h. omega arith) (λ h. omega arith))
+
+        full-two : ltb cellsDepth (g .p - 2 + 0) ≡ false
+        full-two = room (g .p - 2) (omega arith)
+
+        depth-two : g .p - 2 + 0 ≡ g .p - 2
+        depth-two = omega arith
+
+        go : (a : Bool) → ltb (g .p) 2 ≡ a → (place : Place) → placeOf (widthOf code) (getD cells (g .p - 1) 0) ≡ place →
+            carried (inside code operand next) mem here ≡ stepBy (reachOf 2 (widthOf code) cells (g .p)) (storedBy (widthOf code))
+        go true few (Memory a) at = rw (e .names, at, e .known, e .asks, few)
+        go true few (Local k) at = rw (e .names, at, e .known, e .asks, few)
+        go true few (Cell k) at = rw (e .names, at, e .known, e .asks, few)
+        go true few Nowhere at = rw (e .names, at, e .known, e .asks, few)
+        go false few (Memory a) at = rw (e .names, at, e .known, e .asks, few, full-two, depth-two, paid)
+        go false few (Local k) at = rw (e .names, at, e .known, e .asks, few, full-two, depth-two, paid, same-level)
+        go false few (Cell k) at = rw (e .names, at, e .known, e .asks, few, full-two, depth-two, paid, same-frame)
+        go false few Nowhere at = rw (e .names, at, e .known, e .asks, few, full-two)
+
+    -- every other instruction, by what it promises
+    abbrev wentTo : List ℕ → ℕ → Stack → Stepped
+    wentTo cells′ price at =
+        done mem (machineIn cells′ returns frames levels (movedTo g (at .p) (g .r) (g .s) (g .e) (at .counter) (at .flag))) price
+
+    pub cells-acts : (code ≡ 0x0D → ⊥) → {cells′ : List ℕ} {said : Answer Stack} → Carries code operand next cells (g .p) (g .flag) cells′ said →
+        Does said (wentTo cells′ (cyclesOf code))
+    cells-acts other {cells′} {said} carries =
+        record { is = carries mem links (g .counter) .0 ∙ ap (λ (price : ℕ). stepBy said (wentTo cells′ price)) (cost other) }
+
+    -- a refusal leaves the cells as they were
+    pub cells-end : (code ≡ 0x0D → ⊥) → {cells′ : List ℕ} {said : Answer Stack} → Carries code operand next cells (g .p) (g .flag) cells′ said →
+        {number : ℕ} → said ≡ refuses number → {g′ : Registers} → g′ ≡ haltedBy said g → Round mem₀ m₀ budget mem cells′ returns frames levels g′
+    cells-end other {cells′} {said} carries e {g′} eg =
+        let same : cells′ ≡ cells = subst (Unaltered cells cells′) e (carries mem links (g .counter) .1) in
+        subst⁻¹ (λ (l : List ℕ). Round mem₀ m₀ budget mem l returns frames levels g′) same (ends found (cells-acts other carries) e refl eg)

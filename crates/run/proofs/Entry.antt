@@ -5,25 +5,26 @@ use mathlib.Core.List.{List}
 use Prim.Native.Nat.{ℕ, _≤_, _<_}
 use borrow.Author.Tests.{eq-eqb, ne-eqb, le-leb, lt-leb}
 use lib.ListN.{length}
+use Rattle.machine.specs.Limits.{memoryLength, mostBudget}
 use Rattle.machine.specs.State.{wellFormed}
-use Rattle.machine.specs.Run.{After, runFrom, runOf, acceptable}
+use Rattle.machine.specs.Run.{After, afterOf, runFrom, runOf, acceptable}
 use Rattle.machine.specs.declared.Machine.{Machine}
 use Rattle.machine.specs.declared.Ran.{Ran}
-use Rattle.run.specs.Promises.{ranOf, afterOf}
+use Rattle.run.specs.Machines.{ranOf}
 
 module _ (mem : List ℕ) (m : Machine) (budget : ℕ) where
-  pub wrong-length : (length mem ≡ 32768 → ⊥) → acceptable mem m budget ≡ false
+  pub wrong-length : (length mem ≡ memoryLength → ⊥) → acceptable mem m budget ≡ false
   unfolding acceptable
-  wrong-length h = rw (ne-eqb (length mem) 32768 h)
+  wrong-length h = rw (ne-eqb (length mem) memoryLength h)
 
-  pub wrong-budget : length mem ≡ 32768 → 1000000 < budget → acceptable mem m budget ≡ false
+  pub wrong-budget : length mem ≡ memoryLength → mostBudget < budget → acceptable mem m budget ≡ false
   unfolding acceptable
-  wrong-budget h g = rw (eq-eqb (length mem) 32768 h, lt-leb budget 1000000 g)
+  wrong-budget h g = rw (eq-eqb (length mem) memoryLength h, lt-leb budget mostBudget g)
 
-  pub judged : length mem ≡ 32768 → budget ≤ 1000000 → (b : Bool) → b ≡ wellFormed m → (verdict : Bool) → b ≡ verdict →
+  pub judged : length mem ≡ memoryLength → budget ≤ mostBudget → (b : Bool) → b ≡ wellFormed m → (verdict : Bool) → b ≡ verdict →
       acceptable mem m budget ≡ verdict
   unfolding acceptable
-  judged h g b e verdict v = rw (eq-eqb (length mem) 32768 h, le-leb budget 1000000 g) (sym e ∙ v)
+  judged h g b e verdict v = rw (eq-eqb (length mem) memoryLength h, le-leb budget mostBudget g) (sym e ∙ v)
 
   -- answer 2 alters nothing
   pub declined : acceptable mem m budget ≡ false → (ran : Ran) → ran ≡ ranOf 2 (record { 0 = 0 }) (record { 0 = 0 }) m →

@@ -1,20 +1,26 @@
+-- an instruction on the parameter cells, group by group
 mod OnCells
 mod Shuffles
 mod Pushes
 mod Goings
 mod Arithmetic
+-- what stands at an address, by the entry of its first byte
 mod Fetching
 mod OneByte
-mod Places
 mod Unknown
+-- where an access lies, and what a store writes
+mod Places
+mod Written
+-- tests of the code as the definition's own
 mod Rules
-mod Accesses
+-- what an answer means for the step, and what it tells of the pointers
+mod Answered
+mod Rooms
+mod Drops
+mod CutOff
+-- the loop: where it stands, a round, and the arms of a round
 mod Loop
-mod Linked
-mod Throwing
-mod Loading
-mod Facts
-mod Turning
+mod Rounds
 mod Arms
-mod Reaches
+-- the door
 mod Entry

@@ -7,14 +7,15 @@ use native.Mathlib.Omega.{arith}
 use lib.Dec.{leb, eqb, T, leb→le, eqb→eq}
 use lib.ListN.{length, length-map}
 use Rattle.plain.specs.Choice.{both}
-use Rattle.machine.specs.State.{wellFormed}
+use Rattle.plain.specs.Laws.Choice.{both-parts, is-true}
+use Rattle.machine.specs.Limits.{memoryLength, mostBudget}
+use Rattle.machine.specs.State.{wellFormed, Whole}
 use Rattle.machine.specs.Fetch.{instructionAt}
 use Rattle.machine.specs.Step.{Stepped, refused, done, stepOf, costOf}
 use Rattle.machine.specs.Run.{After, ended, runFrom, acceptable}
 use Rattle.machine.specs.Laws.Costs.{cost-bounded}
-use Rattle.machine.specs.Laws.Kept.{Whole, Formed, formed, step-kept}
+use Rattle.machine.specs.Laws.Kept.{Formed, formed, step-kept}
 use Rattle.machine.specs.Laws.Passed.{step-done}
-use Rattle.machine.specs.Laws.Tables.{both-parts}
 use Rattle.machine.specs.declared.Machine.{Machine}
 
 -- an array of structs has as many elements as the list of their values
@@ -25,9 +26,9 @@ pub record Here (mem₀ : List ℕ) (m₀ : Machine) (budget : ℕ) (mem : List 
   pub same : runFrom budget mem₀ m₀ 0 0 ≡ runFrom (budget - n) mem m n c
   pub within : n ≤ budget
   pub priced : c ≤ 42 * n
-  pub limit : budget ≤ 1000000
-  pub long₀ : length mem₀ ≡ 32768
-  pub long : length mem ≡ 32768
+  pub limit : budget ≤ mostBudget
+  pub long₀ : length mem₀ ≡ memoryLength
+  pub long : length mem ≡ memoryLength
   pub whole : Whole m
   pub formed : Formed m
 
@@ -36,23 +37,19 @@ module _ (mem₀ : List ℕ) (m₀ : Machine) (budget : ℕ) where
   pub starts : acceptable mem₀ m₀ budget ≡ true → Whole m₀ → Here mem₀ m₀ budget mem₀ m₀ 0 0
   unfolding acceptable
   starts e whole =
-      let t = both-parts (eqb (length mem₀) 32768) (both (leb budget 1000000) (wellFormed m₀)) (subst T (sym e) tt) in
-      let u = both-parts (leb budget 1000000) (wellFormed m₀) (t .1) in
-      let long = eqb→eq (length mem₀) 32768 (t .0) in
+      let t = both-parts (eqb (length mem₀) memoryLength) (both (leb budget mostBudget) (wellFormed m₀)) (subst T (sym e) tt) in
+      let u = both-parts (leb budget mostBudget) (wellFormed m₀) (t .1) in
+      let long = eqb→eq (length mem₀) memoryLength (t .0) in
       record {
         same = ap (λ (left : ℕ). runFrom left mem₀ m₀ 0 0) (omega arith);
         within = omega arith;
         priced = omega arith;
-        limit = leb→le budget 1000000 (u .0);
+        limit = leb→le budget mostBudget (u .0);
         long₀ = long;
         long = long;
         whole = whole;
-        formed = formed m₀ (true-of (wellFormed m₀) (u .1));
+        formed = formed m₀ (is-true (wellFormed m₀) (u .1));
       }
-    where
-      true-of : (b : Bool) → T b → b ≡ true
-      true-of true t = refl
-      true-of false t = absurd t
 
   -- what the next step makes of a run with budget left
   run-step : (left : ℕ) (mem : List ℕ) (m : Machine) (n c : ℕ) (s : Stepped) → stepOf mem m ≡ s →

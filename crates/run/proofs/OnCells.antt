@@ -4,50 +4,51 @@ use mathlib.Core.Bool.{Bool, true, false}
 use mathlib.Core.List.{List}
 use Prim.Native.Nat.{ℕ, _+_, _-_, _≤_, _<_}
 use native.Mathlib.Omega.{arith}
-use borrow.Author.Tests.{lt-ltb, le-ltb, ltb-true, ltb-false}
-use lib.Dec.{ltb}
+use borrow.Author.Tests.{lt-ltb, le-ltb, leb-true, leb-false}
+use lib.Dec.{leb}
 use lib.ListN.{length, set}
 use lib.Seq.{sets}
 use Rattle.plain.specs.Choice.{pick}
+use Rattle.plain.specs.Answer.{refuses, gives}
+use Rattle.links.specs.Depths.{cellsDepth}
 use Rattle.links.specs.Actions.{still}
 use Rattle.links.specs.declared.Links.{Links}
-use Rattle.machine.specs.Codes.{Op, known, entry, entryAt}
+use Rattle.machine.specs.Codes.{Op}
 use Rattle.machine.specs.Rows.{make, rowOf, nothing}
 use Rattle.machine.specs.Step.{carried}
-use Rattle.run.specs.Promises.{machineOf, inside, Meets, pushed, pushedCells}
-use Rattle.run.specs.declared.Done.{Done}
-use Rattle.run.specs.declared.Done.the-variants.{Went, Refused}
+use Rattle.run.specs.Machines.{machineOf, inside}
+use Rattle.run.specs.Promises.{Spells, Meets, pushed, pushedCells}
 
 -- the row of an instruction that leaves links and memory alone and asks for nothing
 abbrev pub Plain : Op → ℕ → ℕ → ℕ → List ℕ → ℕ → ℕ → ℕ → List ℕ → ℕ → ℕ → Type 0
 Plain op takes operand next cells p flag keeps values goes flag′ =
-    (code bytes puts cycles : ℕ) → entryAt code ≡ entry op bytes takes puts cycles →
+    (code : ℕ) → Spells code op takes →
     (mem : List ℕ) (links : Links) (counter : ℕ) →
     rowOf (inside code operand next) mem (machineOf cells p links counter flag) op ≡
     make keeps values still goes flag′ mem nothing
 
-module _ (op : Op) (k : known op ≡ true) (takes operand next : ℕ) (cells : List ℕ) (p flag keeps : ℕ) (values : List ℕ) (goes flag′ : ℕ)
+module _ (op : Op) (takes operand next : ℕ) (cells : List ℕ) (p flag keeps : ℕ) (values : List ℕ) (goes flag′ : ℕ)
     (plain : Plain op takes operand next cells p flag keeps values goes flag′) where
   -- fewer cells than it takes: test 5
-  pub few : p < takes → Meets op takes operand next cells p flag cells (Refused 5)
+  pub few : p < takes → Meets op takes operand next cells p flag cells (refuses 5)
   unfolding carried
-  few h code bytes puts cycles e mem links counter =
-      (rw (e, plain code bytes puts cycles e mem links counter, k, lt-ltb p takes h), refl)
+  few h code e mem links counter =
+      (rw (e .names, plain code e mem links counter, e .known, e .asks, lt-ltb p takes h), refl)
 
   -- P would pass 64: test 8
-  many : takes ≤ p → 64 < keeps + length values → Meets op takes operand next cells p flag cells (Refused 8)
+  many : takes ≤ p → 64 < keeps + length values → Meets op takes operand next cells p flag cells (refuses 8)
   unfolding carried
-  many h g code bytes puts cycles e mem links counter =
-      (rw (e, plain code bytes puts cycles e mem links counter, k, le-ltb p takes h, lt-ltb 64 (keeps + length values) g), refl)
+  many h g code e mem links counter =
+      (rw (e .names, plain code e mem links counter, e .known, e .asks, le-ltb p takes h, lt-ltb 64 (keeps + length values) g), refl)
 
   -- it is carried out
   pub went : (cells′ : List ℕ) (p′ : ℕ) → takes ≤ p → p′ ≤ 64 → sets cells keeps values ≡ cells′ → keeps + length values ≡ p′ →
-      Meets op takes operand next cells p flag cells′ (Went (record { p = p′; flag = flag′; counter = goes }))
+      Meets op takes operand next cells p flag cells′ (gives (record { p = p′; flag = flag′; counter = goes }))
   unfolding carried
-  went cells′ p′ h g same depth code bytes puts cycles e mem links counter =
+  went cells′ p′ h g same depth code e mem links counter =
       let room : keeps + length values ≤ 64 = omega arith in (
         rw
-            (e, plain code bytes puts cycles e mem links counter, k, le-ltb p takes h, le-ltb 64 (keeps + length values) room, same, depth),
+            (e .names, plain code e mem links counter, e .known, e .asks, le-ltb p takes h, le-ltb 64 (keeps + length values) room, same, depth),
         tt,
       )
 
@@ -55,20 +56,20 @@ module _ (op : Op) (k : known op ≡ true) (takes operand next : ℕ) (cells : L
   pub by-push : (v : ℕ) → flag′ ≡ flag → goes ≡ next → takes ≤ p → p ≤ 64 →
       sets cells keeps values ≡ set cells p v → keeps + length values ≡ p + 1 →
       Meets op takes operand next cells p flag (pushedCells cells p v) (pushed p flag next)
-  by-push v f g h top same depth = go (ltb 63 p) refl
+  by-push v f g h top same depth = go (leb cellsDepth p) refl
     where
-      go : (b : Bool) → ltb 63 p ≡ b →
+      go : (b : Bool) → leb cellsDepth p ≡ b →
           Meets op takes operand next cells p flag (pick b cells (set cells p v))
-          (pick b (Refused 8) (Went (record { p = p + 1; flag = flag; counter = next })))
+          (pick b (refuses 8) (gives (record { p = p + 1; flag = flag; counter = next })))
       go true e =
-          let over : 63 < p = ltb-true 63 p e in
+          let over : 64 ≤ p = leb-true 64 p e in
           many h (omega arith)
       go false e =
-          let room : p ≤ 63 = ltb-false 63 p e in
+          let room : p < 64 = leb-false 64 p e in
           subst
-          (λ (x : ℕ). Meets op takes operand next cells p flag (set cells p v) (Went (record { p = p + 1; flag = x; counter = next })))
+          (λ (x : ℕ). Meets op takes operand next cells p flag (set cells p v) (gives (record { p = p + 1; flag = x; counter = next })))
           f
           (subst
-          (λ (y : ℕ). Meets op takes operand next cells p flag (set cells p v) (Went (record { p = p + 1; flag = flag′; counter = y })))
+          (λ (y : ℕ). Meets op takes operand next cells p flag (set cells p v) (gives (record { p = p + 1; flag = flag′; counter = y })))
           g
           (went (set cells p v) (p + 1) h (omega arith) same depth))

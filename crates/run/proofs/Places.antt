@@ -6,16 +6,16 @@ use native.Mathlib.Omega.{arith}
 use borrow.Author.Tests.{le-leb, lt-leb, eq-eqb, ne-eqb}
 use lib.Dec.{leb}
 use Rattle.plain.specs.Choice.{pick, both}
-use Rattle.machine.specs.Memory.{stands}
+use Rattle.machine.specs.Memory.{stands, firstLocal, lastLocal, firstCell, lastCell}
 use Rattle.machine.specs.declared.Place.{Place}
 use Rattle.machine.specs.declared.Place.the-variants.{Local, Cell, Nowhere}
 
 -- the cell at an address, as the definition of a place has it
 abbrev pub cellAt : ℕ → Place
 cellAt a =
-    pick (stands 0x10000 0x1003C a)
-    (Local ((a - 0x10000) / 4))
-    (pick (stands 0x10040 0x1005C a) (Cell ((a - 0x10040) / 4)) Nowhere)
+    pick (stands firstLocal lastLocal a)
+    (Local ((a - firstLocal) / 4))
+    (pick (stands firstCell lastCell a) (Cell ((a - firstCell) / 4)) Nowhere)
 
 neither : (x y : Bool) → both x (both y false) ≡ false
 neither true true = refl
@@ -23,27 +23,27 @@ neither true false = refl
 neither false y = refl
 
 module _ (a : ℕ) where
-  pub cell-low : a < 0x10000 → Nowhere ≡ cellAt a
+  pub cell-low : a < firstLocal → Nowhere ≡ cellAt a
   cell-low h =
-      let lower : a < 0x10040 = omega arith in
-      rw (lt-leb 0x10000 a h, lt-leb 0x10040 a lower)
+      let lower : a < firstCell = omega arith in
+      rw (lt-leb firstLocal a h, lt-leb firstCell a lower)
 
-  pub cell-high : 0x1005C < a → Nowhere ≡ cellAt a
+  pub cell-high : lastCell < a → Nowhere ≡ cellAt a
   cell-high h =
-      let first : 0x10000 ≤ a = omega arith in
-      let second : 0x10040 ≤ a = omega arith in
-      let past : 0x1003C < a = omega arith in
-      rw (le-leb 0x10000 a first, lt-leb a 0x1003C past, le-leb 0x10040 a second, lt-leb a 0x1005C h)
+      let first : firstLocal ≤ a = omega arith in
+      let second : firstCell ≤ a = omega arith in
+      let past : lastLocal < a = omega arith in
+      rw (le-leb firstLocal a first, lt-leb a lastLocal past, le-leb firstCell a second, lt-leb a lastCell h)
 
   pub cell-between : (a % 4 ≡ 0 → ⊥) → Nowhere ≡ cellAt a
   cell-between h =
-      rw (ne-eqb (a % 4) 0 h, neither (leb 0x10000 a) (leb a 0x1003C), neither (leb 0x10040 a) (leb a 0x1005C))
+      rw (ne-eqb (a % 4) 0 h, neither (leb firstLocal a) (leb a lastLocal), neither (leb firstCell a) (leb a lastCell))
 
-  pub cell-local : 0x10000 ≤ a → a ≤ 0x1003C → a % 4 ≡ 0 → Local ((a - 0x10000) / 4) ≡ cellAt a
-  cell-local h g e = rw (le-leb 0x10000 a h, le-leb a 0x1003C g, eq-eqb (a % 4) 0 e)
+  pub cell-local : firstLocal ≤ a → a ≤ lastLocal → a % 4 ≡ 0 → Local ((a - firstLocal) / 4) ≡ cellAt a
+  cell-local h g e = rw (le-leb firstLocal a h, le-leb a lastLocal g, eq-eqb (a % 4) 0 e)
 
-  pub cell-cell : 0x1003C < a → a ≤ 0x1005C → a % 4 ≡ 0 → Cell ((a - 0x10040) / 4) ≡ cellAt a
+  pub cell-cell : lastLocal < a → a ≤ lastCell → a % 4 ≡ 0 → Cell ((a - firstCell) / 4) ≡ cellAt a
   cell-cell h g e =
-      let first : 0x10000 ≤ a = omega arith in
-      let second : 0x10040 ≤ a = omega arith in
-      rw (le-leb 0x10000 a first, lt-leb a 0x1003C h, le-leb 0x10040 a second, le-leb a 0x1005C g, eq-eqb (a % 4) 0 e)
+      let first : firstLocal ≤ a = omega arith in
+      let second : firstCell ≤ a = omega arith in
+      rw (le-leb firstLocal a first, lt-leb a lastLocal h, le-leb firstCell a second, le-leb a lastCell g, eq-eqb (a % 4) 0 e)

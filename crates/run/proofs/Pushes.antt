@@ -6,11 +6,10 @@ use Prim.Native.Nat.{ℕ, suc, _+_, _-_, _≤_, _<_}
 use native.Mathlib.Omega.{arith}
 use lib.ListN.{getD, set}
 use lib.Seq.{sets, set-getD}
+use Rattle.plain.specs.Answer.{refuses, gives}
 use Rattle.machine.specs.Rows.{rowOf}
-use Rattle.machine.specs.Codes.{DUP, OVER, PSP-AT, ZERO, DUP-NONZERO, LITERAL}
-use Rattle.machine.specs.declared.Width.{Width}
+use Rattle.machine.specs.Codes.{SHUFFLE, DUP, OVER, PSP-AT, ZERO, LITERAL}
 use Rattle.run.specs.Promises.{Meets, pushed, pushedCells}
-use Rattle.run.specs.declared.Done.the-variants.{Went, Refused}
 use Rattle.run.proofs.OnCells.{few, went, by-push}
 
 module _ (operand next : ℕ) (cells : List ℕ) (p flag : ℕ) where
@@ -27,40 +26,40 @@ module _ (operand next : ℕ) (cells : List ℕ) (p flag : ℕ) where
       (ap (λ (n : ℕ). set (set cells n (getD cells (p - 1) 0)) (suc (suc (p - 2))) v) one ∙
       (ap (λ (l : List ℕ). set l (suc (suc (p - 2))) v) (set-getD cells (p - 1) 0) ∙ ap (λ (n : ℕ). set cells n v) none))
 
-  pub dup-few : p < 1 → Meets DUP 1 operand next cells p flag cells (Refused 5)
+  pub dup-few : p < 1 → Meets (SHUFFLE DUP) 1 operand next cells p flag cells (refuses 5)
   unfolding rowOf
-  dup-few = few DUP refl 1 operand next cells p flag (p - 1) (getD cells (p - 1) 0 ∷ getD cells (p - 1) 0 ∷ []) (next) (flag) (λ code bytes puts cycles e mem links counter. rw e)
+  dup-few = few (SHUFFLE DUP) 1 operand next cells p flag (p - 1) (getD cells (p - 1) 0 ∷ getD cells (p - 1) 0 ∷ []) (next) (flag) (λ code e mem links counter. rw (e .asks))
 
-  pub dup-pushed : 1 ≤ p → p ≤ 64 → Meets DUP 1 operand next cells p flag (pushedCells cells p (getD cells (p - 1) 0)) (pushed p flag next)
+  pub dup-pushed : 1 ≤ p → p ≤ 64 → Meets (SHUFFLE DUP) 1 operand next cells p flag (pushedCells cells p (getD cells (p - 1) 0)) (pushed p flag next)
   unfolding rowOf
   dup-pushed h top =
-      by-push DUP refl 1 operand next cells p flag (p - 1) (getD cells (p - 1) 0 ∷ getD cells (p - 1) 0 ∷ []) next flag (λ code bytes puts cycles e mem links counter. rw e)
+      by-push (SHUFFLE DUP) 1 operand next cells p flag (p - 1) (getD cells (p - 1) 0 ∷ getD cells (p - 1) 0 ∷ []) next flag (λ code e mem links counter. rw (e .asks))
       (getD cells (p - 1) 0) refl refl h top (rewritten h (getD cells (p - 1) 0)) (omega arith)
 
-  pub over-few : p < 2 → Meets OVER 2 operand next cells p flag cells (Refused 5)
+  pub over-few : p < 2 → Meets (SHUFFLE OVER) 2 operand next cells p flag cells (refuses 5)
   unfolding rowOf
-  over-few = few OVER refl 2 operand next cells p flag (p - 2) (getD cells (p - 2) 0 ∷ getD cells (p - 1) 0 ∷ getD cells (p - 2) 0 ∷ []) (next) (flag) (λ code bytes puts cycles e mem links counter. rw e)
+  over-few = few (SHUFFLE OVER) 2 operand next cells p flag (p - 2) (getD cells (p - 2) 0 ∷ getD cells (p - 1) 0 ∷ getD cells (p - 2) 0 ∷ []) (next) (flag) (λ code e mem links counter. rw (e .asks))
 
-  pub over-pushed : 2 ≤ p → p ≤ 64 → Meets OVER 2 operand next cells p flag (pushedCells cells p (getD cells (p - 2) 0)) (pushed p flag next)
+  pub over-pushed : 2 ≤ p → p ≤ 64 → Meets (SHUFFLE OVER) 2 operand next cells p flag (pushedCells cells p (getD cells (p - 2) 0)) (pushed p flag next)
   unfolding rowOf
   over-pushed h top =
-      by-push OVER refl 2 operand next cells p flag (p - 2) (getD cells (p - 2) 0 ∷ getD cells (p - 1) 0 ∷ getD cells (p - 2) 0 ∷ []) next flag (λ code bytes puts cycles e mem links counter. rw e)
+      by-push (SHUFFLE OVER) 2 operand next cells p flag (p - 2) (getD cells (p - 2) 0 ∷ getD cells (p - 1) 0 ∷ getD cells (p - 2) 0 ∷ []) next flag (λ code e mem links counter. rw (e .asks))
       (getD cells (p - 2) 0) refl refl h top (rewritten-two h (getD cells (p - 2) 0)) (omega arith)
 
-  pub depth-pushed : p ≤ 64 → Meets PSP-AT 0 operand next cells p flag (pushedCells cells p (p)) (pushed p flag next)
+  pub depth-pushed : p ≤ 64 → Meets (SHUFFLE PSP-AT) 0 operand next cells p flag (pushedCells cells p (p)) (pushed p flag next)
   unfolding rowOf
   depth-pushed top =
-      by-push PSP-AT refl 0 operand next cells p flag (p - 0) (p ∷ []) next flag (λ code bytes puts cycles e mem links counter. rw e)
+      by-push (SHUFFLE PSP-AT) 0 operand next cells p flag (p - 0) (p ∷ []) next flag (λ code e mem links counter. rw (e .asks))
       (p) refl refl (omega arith) top (ap (λ (n : ℕ). set cells n (p)) (omega arith)) (omega arith)
 
-  pub zero-pushed : p ≤ 64 → Meets ZERO 0 operand next cells p flag (pushedCells cells p (0)) (pushed p flag next)
+  pub zero-pushed : p ≤ 64 → Meets (SHUFFLE ZERO) 0 operand next cells p flag (pushedCells cells p (0)) (pushed p flag next)
   unfolding rowOf
   zero-pushed top =
-      by-push ZERO refl 0 operand next cells p flag (p - 0) (0 ∷ []) next flag (λ code bytes puts cycles e mem links counter. rw e)
+      by-push (SHUFFLE ZERO) 0 operand next cells p flag (p - 0) (0 ∷ []) next flag (λ code e mem links counter. rw (e .asks))
       (0) refl refl (omega arith) top (ap (λ (n : ℕ). set cells n (0)) (omega arith)) (omega arith)
 
-  pub literal-pushed : (w : Width) → p ≤ 64 → Meets (LITERAL w) 0 operand next cells p flag (pushedCells cells p (operand)) (pushed p flag next)
+  pub literal-pushed : p ≤ 64 → Meets LITERAL 0 operand next cells p flag (pushedCells cells p (operand)) (pushed p flag next)
   unfolding rowOf
-  literal-pushed w top =
-      by-push (LITERAL w) refl 0 operand next cells p flag (p - 0) (operand ∷ []) next flag (λ code bytes puts cycles e mem links counter. rw e)
+  literal-pushed top =
+      by-push LITERAL 0 operand next cells p flag (p - 0) (operand ∷ []) next flag (λ code e mem links counter. rw (e .asks))
       (operand) refl refl (omega arith) top (ap (λ (n : ℕ). set cells n (operand)) (omega arith)) (omega arith)

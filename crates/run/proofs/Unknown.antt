@@ -9,14 +9,18 @@ use borrow.Author.Tests.{lt-ltb, eq-eqb, ne-eqb}
 use lib.Dec.{eqb}
 use lib.ListN.{getD}
 use Rattle.plain.specs.Choice.{pick}
-use Rattle.machine.specs.Codes.{Entry, entry, entryAt, table, UNKNOWN}
+use Rattle.plain.specs.Answer.{refuses}
+use Rattle.machine.specs.Codes.{Entry, unknown, entryAt, table}
+use Rattle.machine.specs.Rows.{rowOf}
+use Rattle.machine.specs.Step.{carried}
+use Rattle.run.specs.Promises.{Carries}
 
 -- the entries from place k on, asked one after another
 abbrev pub chain : ℕ → List Entry → ℕ → Entry
-chain k [] n = entry UNKNOWN 1 0 0 1
+chain k [] n = unknown
 chain k (e ∷ es) n = pick (eqb n k) e (chain (suc k) es n)
 
-chain-at : (es : List Entry) (k i : ℕ) → chain k es (k + i) ≡ getD es i (entry UNKNOWN 1 0 0 1)
+chain-at : (es : List Entry) (k i : ℕ) → chain k es (k + i) ≡ getD es i (unknown)
 chain-at [] k i = refl
 chain-at (e ∷ es) k zero = rw (eq-eqb (k + 0) k (add-zero k))
 chain-at (e ∷ es) k (suc i) =
@@ -24,7 +28,7 @@ chain-at (e ∷ es) k (suc i) =
     let shifted : k + suc i ≡ suc k + i = omega arith in
     rw (ne-eqb (k + suc i) k other) (ap (chain (suc k) es) shifted ∙ chain-at es (suc k) i)
 
-pub unknown-at : (code : ℕ) → code < 0x80 → chain 0 table code ≡ entry UNKNOWN 1 0 0 1 → entryAt code ≡ entry UNKNOWN 1 0 0 1
+pub unknown-at : (code : ℕ) → code < 0x80 → chain 0 table code ≡ unknown → entryAt code ≡ unknown
 unfolding entryAt
 unknown-at code h e =
     let start : 0 + code ≡ code = omega arith in
@@ -34,3 +38,9 @@ unknown-at code h e =
 pub either-way : (b : Bool) (e : Entry) → pick b e e ≡ e
 either-way true e = refl
 either-way false e = refl
+
+-- an unknown code is refused with 4, and alters no cell
+pub unknown-refused : (code operand next p flag : ℕ) (cells : List ℕ) → entryAt code ≡ unknown →
+    Carries code operand next cells p flag cells (refuses 4)
+unfolding rowOf carried
+unknown-refused code operand next p flag cells e mem links counter = (rw e, refl)

@@ -1,6 +1,12 @@
-pub mod Promises
+-- the machine, an instruction and a result of their parts
+pub mod Machines
+-- what each answer enum says
+pub mod Answers
+-- what the checks, the accesses and the operations on two cells answer
+pub mod Verdicts
 pub mod Accesses
 pub mod Operations
-pub mod Verdicts
-pub mod Numbers
-pub mod Settled
+-- what the registers become
+pub mod Registers
+-- what the functions on the parameter cells and the fetch promise
+pub mod Promises

@@ -3,32 +3,36 @@ use mathlib.Core.List.{List}
 use Prim.Native.Nat.{ℕ, _-_}
 use lib.Dec.{ltb, leb, eqb}
 use lib.ListN.{getD}
+use Rattle.plain.specs.Answer.{Answer, refuses, gives}
 use Rattle.plain.specs.Choice.{pick}
-use Rattle.run.specs.declared.Checked.{Checked}
-use Rattle.run.specs.declared.Checked.the-variants.{Fine, Refused}
-use Rattle.run.specs.declared.Thrown.{Thrown}
-use Rattle.run.specs.declared.Thrown.the-variants as thrown
+use Rattle.links.specs.Depths.{cellsDepth, returnsDepth, subroutinesDepth, exceptionsDepth}
+use Rattle.run.specs.declared.Throw.{Throw}
+use Rattle.run.specs.declared.Throw.the-variants.{Zero, Code}
 
-unfoldable pub pushable : ℕ → ℕ → Checked
-pushable p r = pick (ltb p 1) (Refused 5) (pick (leb 64 r) (Refused 9) Fine)
+unfoldable pub pushable : ℕ → ℕ → Answer (Unit {0})
+pushable p r = pick (ltb p 1) (refuses 5) (pick (leb returnsDepth r) (refuses 9) (gives tt))
 
-unfoldable pub readable : ℕ → ℕ → Checked
-readable p r = pick (eqb r 0) (Refused 6) (pick (ltb 63 p) (Refused 8) Fine)
+unfoldable pub readable : ℕ → ℕ → Answer (Unit {0})
+readable p r = pick (eqb r 0) (refuses 6) (pick (leb cellsDepth p) (refuses 8) (gives tt))
 
-unfoldable pub callable : ℕ → ℕ → ℕ → ℕ → Checked
+unfoldable pub callable : ℕ → ℕ → ℕ → ℕ → Answer (Unit {0})
 callable takes p r s =
-    pick (ltb p takes) (Refused 5) (pick (leb 64 r) (Refused 9) (pick (leb 32 s) (Refused 10) Fine))
+    pick (ltb p takes) (refuses 5) (pick (leb returnsDepth r) (refuses 9) (pick (leb subroutinesDepth s) (refuses 10) (gives tt)))
 
-unfoldable pub catchable : ℕ → ℕ → ℕ → ℕ → Checked
+unfoldable pub catchable : ℕ → ℕ → ℕ → ℕ → Answer (Unit {0})
 catchable p r s e =
-    pick (ltb p 1) (Refused 5)
-    (pick (leb 64 r) (Refused 9) (pick (leb 32 s) (Refused 10) (pick (leb 8 e) (Refused 11) Fine)))
+    pick (ltb p 1) (refuses 5)
+    (pick (leb returnsDepth r) (refuses 9) (pick (leb subroutinesDepth s) (refuses 10) (pick (leb exceptionsDepth e) (refuses 11) (gives tt))))
 
-unfoldable pub throwable : List ℕ → ℕ → ℕ → Thrown
+unfoldable pub throwable : List ℕ → ℕ → ℕ → Answer Throw
 throwable cells p e =
-    pick (ltb p 1) (thrown.Refused 5)
-    (pick (eqb (getD cells (p - 1) 0) 0) thrown.Nothing
-    (pick (eqb e 0) (thrown.Refused 7) (thrown.Code (getD cells (p - 1) 0))))
+    pick (ltb p 1) (refuses 5)
+    (pick (eqb (getD cells (p - 1) 0) 0) (gives Zero)
+    (pick (eqb e 0) (refuses 7) (gives (Code (getD cells (p - 1) 0)))))
+
+-- S = 0 is the end of the program
+unfoldable pub exitable : ℕ → Answer (Unit {0})
+exitable s = pick (eqb s 0) (refuses 0) (gives tt)
 
 unfoldable pub sAfterPop : ℕ → ℕ → ℕ → ℕ
 sAfterPop r s copy = pick (eqb s 0) s (pick (leb r copy) (s - 1) s)

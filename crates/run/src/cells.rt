@@ -1,22 +1,23 @@
 // Instructions on the parameter cells. P is the depth; a pop leaves the old value in its cell.
 use crate::Done;
 use crate::Stack;
+use machine::Machine;
 use word::OneCell;
 use word::Outcome;
 use word::TwoCells;
 ghost use mathlib.Core.Path.{_≡_};
 ghost use Prim.Native.Nat.{ℕ, _≤_};
-ghost use Rattle.machine.specs.Codes.{NOP, DROP, DUP, SWAP, OVER, NIP, ROT, PSP-AT, ZERO, DUP-NONZERO, ONE, TWO, LITERAL};
-ghost use Rattle.machine.specs.declared.Width.{Width};
+ghost use Rattle.machine.specs.Codes.{SHUFFLE, NOP, DROP, DUP, SWAP, OVER, NIP, ROT, PSP-AT, ZERO, DUP-NONZERO, ONE, TWO, LITERAL};
 ghost use Rattle.run.specs.Operations.{twoOf};
+ghost use Rattle.run.specs.Answers.{saysDone};
 ghost use Rattle.run.specs.Promises.{Meets, pushed, pushedCells};
 
 // ( -- value )
 fn push(cells: &mut [u32; 64], value: u32, p: usize, flag: u32, next: u32) -> Done
     requires { ⌜ p ≤ 64 ⌝ }
-    ensures { λ r. ⌜ (r ≡ pushed p flag next) × (now (cells .exit) ≡ pushedCells (now (cells .entry)) p value) ⌝ }
+    ensures { λ r. ⌜ (saysDone r ≡ pushed p flag next) × (now (cells .exit) ≡ pushedCells (now (cells .entry)) p value) ⌝ }
 {
-    if 63 < p {
+    if Machine::CELLS <= p {
         return Done::Refused(8);
     }
     cells[p] = value;
@@ -30,7 +31,7 @@ fn push(cells: &mut [u32; 64], value: u32, p: usize, flag: u32, next: u32) -> Do
 // ( -- ) NOP
 pub(crate) fn nothing(cells: &mut [u32; 64], p: usize, flag: u32, next: u32) -> Done
     requires { ⌜ p ≤ 64 ⌝ }
-    ensures { λ r. ⌜ ((operand : ℕ) → Meets NOP 0 operand next (now (cells .entry)) p flag (now (cells .exit)) r) ⌝ }
+    ensures { λ r. ⌜ ((operand : ℕ) → Meets (SHUFFLE NOP) 0 operand next (now (cells .entry)) p flag (now (cells .exit)) (saysDone r)) ⌝ }
 {
     Done::Went(Stack {
         flag,
@@ -42,7 +43,7 @@ pub(crate) fn nothing(cells: &mut [u32; 64], p: usize, flag: u32, next: u32) -> 
 // ( x -- )
 pub(crate) fn discard(cells: &mut [u32; 64], p: usize, flag: u32, next: u32) -> Done
     requires { ⌜ p ≤ 64 ⌝ }
-    ensures { λ r. ⌜ ((operand : ℕ) → Meets DROP 1 operand next (now (cells .entry)) p flag (now (cells .exit)) r) ⌝ }
+    ensures { λ r. ⌜ ((operand : ℕ) → Meets (SHUFFLE DROP) 1 operand next (now (cells .entry)) p flag (now (cells .exit)) (saysDone r)) ⌝ }
 {
     if p < 1 {
         return Done::Refused(5);
@@ -57,7 +58,7 @@ pub(crate) fn discard(cells: &mut [u32; 64], p: usize, flag: u32, next: u32) -> 
 // ( x -- x x )
 pub(crate) fn dup(cells: &mut [u32; 64], p: usize, flag: u32, next: u32) -> Done
     requires { ⌜ p ≤ 64 ⌝ }
-    ensures { λ r. ⌜ ((operand : ℕ) → Meets DUP 1 operand next (now (cells .entry)) p flag (now (cells .exit)) r) ⌝ }
+    ensures { λ r. ⌜ ((operand : ℕ) → Meets (SHUFFLE DUP) 1 operand next (now (cells .entry)) p flag (now (cells .exit)) (saysDone r)) ⌝ }
 {
     if p < 1 {
         return Done::Refused(5);
@@ -69,7 +70,7 @@ pub(crate) fn dup(cells: &mut [u32; 64], p: usize, flag: u32, next: u32) -> Done
 // ( x y -- y x )
 pub(crate) fn swap(cells: &mut [u32; 64], p: usize, flag: u32, next: u32) -> Done
     requires { ⌜ p ≤ 64 ⌝ }
-    ensures { λ r. ⌜ ((operand : ℕ) → Meets SWAP 2 operand next (now (cells .entry)) p flag (now (cells .exit)) r) ⌝ }
+    ensures { λ r. ⌜ ((operand : ℕ) → Meets (SHUFFLE SWAP) 2 operand next (now (cells .entry)) p flag (now (cells .exit)) (saysDone r)) ⌝ }
 {
     if p < 2 {
         return Done::Refused(5);
@@ -88,7 +89,7 @@ pub(crate) fn swap(cells: &mut [u32; 64], p: usize, flag: u32, next: u32) -> Don
 // ( x y -- x y x )
 pub(crate) fn over(cells: &mut [u32; 64], p: usize, flag: u32, next: u32) -> Done
     requires { ⌜ p ≤ 64 ⌝ }
-    ensures { λ r. ⌜ ((operand : ℕ) → Meets OVER 2 operand next (now (cells .entry)) p flag (now (cells .exit)) r) ⌝ }
+    ensures { λ r. ⌜ ((operand : ℕ) → Meets (SHUFFLE OVER) 2 operand next (now (cells .entry)) p flag (now (cells .exit)) (saysDone r)) ⌝ }
 {
     if p < 2 {
         return Done::Refused(5);
@@ -100,7 +101,7 @@ pub(crate) fn over(cells: &mut [u32; 64], p: usize, flag: u32, next: u32) -> Don
 // ( x y -- y )
 pub(crate) fn nip(cells: &mut [u32; 64], p: usize, flag: u32, next: u32) -> Done
     requires { ⌜ p ≤ 64 ⌝ }
-    ensures { λ r. ⌜ ((operand : ℕ) → Meets NIP 2 operand next (now (cells .entry)) p flag (now (cells .exit)) r) ⌝ }
+    ensures { λ r. ⌜ ((operand : ℕ) → Meets (SHUFFLE NIP) 2 operand next (now (cells .entry)) p flag (now (cells .exit)) (saysDone r)) ⌝ }
 {
     if p < 2 {
         return Done::Refused(5);
@@ -117,7 +118,7 @@ pub(crate) fn nip(cells: &mut [u32; 64], p: usize, flag: u32, next: u32) -> Done
 // ( x y z -- y z x )
 pub(crate) fn rot(cells: &mut [u32; 64], p: usize, flag: u32, next: u32) -> Done
     requires { ⌜ p ≤ 64 ⌝ }
-    ensures { λ r. ⌜ ((operand : ℕ) → Meets ROT 3 operand next (now (cells .entry)) p flag (now (cells .exit)) r) ⌝ }
+    ensures { λ r. ⌜ ((operand : ℕ) → Meets (SHUFFLE ROT) 3 operand next (now (cells .entry)) p flag (now (cells .exit)) (saysDone r)) ⌝ }
 {
     if p < 3 {
         return Done::Refused(5);
@@ -138,7 +139,7 @@ pub(crate) fn rot(cells: &mut [u32; 64], p: usize, flag: u32, next: u32) -> Done
 // ( -- P ) PSP@
 pub(crate) fn depth(cells: &mut [u32; 64], p: usize, flag: u32, next: u32) -> Done
     requires { ⌜ p ≤ 64 ⌝ }
-    ensures { λ r. ⌜ ((operand : ℕ) → Meets PSP-AT 0 operand next (now (cells .entry)) p flag (now (cells .exit)) r) ⌝ }
+    ensures { λ r. ⌜ ((operand : ℕ) → Meets (SHUFFLE PSP-AT) 0 operand next (now (cells .entry)) p flag (now (cells .exit)) (saysDone r)) ⌝ }
 {
     push(cells, p as u32, p, flag, next)
 }
@@ -146,7 +147,7 @@ pub(crate) fn depth(cells: &mut [u32; 64], p: usize, flag: u32, next: u32) -> Do
 // ( -- 0 )
 pub(crate) fn zero(cells: &mut [u32; 64], p: usize, flag: u32, next: u32) -> Done
     requires { ⌜ p ≤ 64 ⌝ }
-    ensures { λ r. ⌜ ((operand : ℕ) → Meets ZERO 0 operand next (now (cells .entry)) p flag (now (cells .exit)) r) ⌝ }
+    ensures { λ r. ⌜ ((operand : ℕ) → Meets (SHUFFLE ZERO) 0 operand next (now (cells .entry)) p flag (now (cells .exit)) (saysDone r)) ⌝ }
 {
     push(cells, 0, p, flag, next)
 }
@@ -154,7 +155,7 @@ pub(crate) fn zero(cells: &mut [u32; 64], p: usize, flag: u32, next: u32) -> Don
 // ( -- operand ) the literals
 pub(crate) fn literal(cells: &mut [u32; 64], operand: u32, p: usize, flag: u32, next: u32) -> Done
     requires { ⌜ p ≤ 64 ⌝ }
-    ensures { λ r. ⌜ ((w : Width) → Meets (LITERAL w) 0 operand next (now (cells .entry)) p flag (now (cells .exit)) r) ⌝ }
+    ensures { λ r. ⌜ Meets LITERAL 0 operand next (now (cells .entry)) p flag (now (cells .exit)) (saysDone r) ⌝ }
 {
     push(cells, operand, p, flag, next)
 }
@@ -162,7 +163,7 @@ pub(crate) fn literal(cells: &mut [u32; 64], operand: u32, p: usize, flag: u32, 
 // ( x -- x x | 0 )
 pub(crate) fn dup_nonzero(cells: &mut [u32; 64], p: usize, flag: u32, next: u32) -> Done
     requires { ⌜ p ≤ 64 ⌝ }
-    ensures { λ r. ⌜ ((operand : ℕ) → Meets DUP-NONZERO 1 operand next (now (cells .entry)) p flag (now (cells .exit)) r) ⌝ }
+    ensures { λ r. ⌜ ((operand : ℕ) → Meets (SHUFFLE DUP-NONZERO) 1 operand next (now (cells .entry)) p flag (now (cells .exit)) (saysDone r)) ⌝ }
 {
     if p < 1 {
         return Done::Refused(5);
@@ -181,7 +182,7 @@ pub(crate) fn dup_nonzero(cells: &mut [u32; 64], p: usize, flag: u32, next: u32)
 // ( x -- value ) arithmetic on one cell
 pub(crate) fn one(cells: &mut [u32; 64], op: OneCell, p: usize, flag: u32, next: u32) -> Done
     requires { ⌜ p ≤ 64 ⌝ }
-    ensures { λ r. ⌜ ((operand : ℕ) → Meets (ONE op) 1 operand next (now (cells .entry)) p flag (now (cells .exit)) r) ⌝ }
+    ensures { λ r. ⌜ ((operand : ℕ) → Meets (ONE op) 1 operand next (now (cells .entry)) p flag (now (cells .exit)) (saysDone r)) ⌝ }
 {
     if p < 1 {
         return Done::Refused(5);
@@ -225,7 +226,7 @@ fn two_of(code: u8) -> TwoCells
 // ( x y -- value ) or ( x y -- under top ) arithmetic on two cells
 pub(crate) fn two(cells: &mut [u32; 64], code: u8, p: usize, flag: u32, next: u32) -> Done
     requires { ⌜ p ≤ 64 ⌝ }
-    ensures { λ r. ⌜ ((operand : ℕ) → Meets (TWO (twoOf code)) 2 operand next (now (cells .entry)) p flag (now (cells .exit)) r) ⌝ }
+    ensures { λ r. ⌜ ((operand : ℕ) → Meets (TWO (twoOf code)) 2 operand next (now (cells .entry)) p flag (now (cells .exit)) (saysDone r)) ⌝ }
 {
     if p < 2 {
         return Done::Refused(5);

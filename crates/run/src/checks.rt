@@ -1,18 +1,22 @@
 // The tests before an action on the linked stacks, each with its number, in the order of the numbers.
 use crate::Checked;
+use crate::Exit;
+use crate::Throw;
 use crate::Thrown;
+use machine::Machine;
 ghost use mathlib.Core.Path.{_≡_};
 ghost use Prim.Native.Nat.{_≤_};
-ghost use Rattle.run.specs.Verdicts.{pushable, readable, callable, catchable, throwable, sAfterPop, eAfterPop, eAfterDropOf};
+ghost use Rattle.run.specs.Answers.{saysChecked, saysExit, saysThrown};
+ghost use Rattle.run.specs.Verdicts.{pushable, readable, callable, catchable, throwable, exitable, sAfterPop, eAfterPop, eAfterDropOf};
 
 // >R
 pub(crate) fn can_push(p: usize, r: usize) -> Checked
-    ensures { λ c. ⌜ c ≡ pushable p r ⌝ }
+    ensures { λ c. ⌜ saysChecked c ≡ pushable p r ⌝ }
 {
     if p < 1 {
         return Checked::Refused(5);
     }
-    if 64 <= r {
+    if Machine::RETURNS <= r {
         return Checked::Refused(9);
     }
     Checked::Fine
@@ -20,12 +24,12 @@ pub(crate) fn can_push(p: usize, r: usize) -> Checked
 
 // R@ and R>
 pub(crate) fn can_read(p: usize, r: usize) -> Checked
-    ensures { λ c. ⌜ c ≡ readable p r ⌝ }
+    ensures { λ c. ⌜ saysChecked c ≡ readable p r ⌝ }
 {
     if r == 0 {
         return Checked::Refused(6);
     }
-    if 63 < p {
+    if Machine::CELLS <= p {
         return Checked::Refused(8);
     }
     Checked::Fine
@@ -33,33 +37,33 @@ pub(crate) fn can_read(p: usize, r: usize) -> Checked
 
 // JSL takes no cell, JSR one
 pub(crate) fn can_call(takes: usize, p: usize, r: usize, s: usize) -> Checked
-    ensures { λ c. ⌜ c ≡ callable takes p r s ⌝ }
+    ensures { λ c. ⌜ saysChecked c ≡ callable takes p r s ⌝ }
 {
     if p < takes {
         return Checked::Refused(5);
     }
-    if 64 <= r {
+    if Machine::RETURNS <= r {
         return Checked::Refused(9);
     }
-    if 32 <= s {
+    if Machine::SUBROUTINES <= s {
         return Checked::Refused(10);
     }
     Checked::Fine
 }
 
 pub(crate) fn can_catch(p: usize, r: usize, s: usize, e: usize) -> Checked
-    ensures { λ c. ⌜ c ≡ catchable p r s e ⌝ }
+    ensures { λ c. ⌜ saysChecked c ≡ catchable p r s e ⌝ }
 {
     if p < 1 {
         return Checked::Refused(5);
     }
-    if 64 <= r {
+    if Machine::RETURNS <= r {
         return Checked::Refused(9);
     }
-    if 32 <= s {
+    if Machine::SUBROUTINES <= s {
         return Checked::Refused(10);
     }
-    if 8 <= e {
+    if Machine::EXCEPTIONS <= e {
         return Checked::Refused(11);
     }
     Checked::Fine
@@ -68,19 +72,29 @@ pub(crate) fn can_catch(p: usize, r: usize, s: usize, e: usize) -> Checked
 // THROW of 0 needs no exception level
 pub(crate) fn can_throw(cells: &[u32; 64], p: usize, e: usize) -> Thrown
     requires { ⌜ p ≤ 64 ⌝ }
-    ensures { λ c. ⌜ c ≡ throwable (now (cells .entry)) p e ⌝ }
+    ensures { λ c. ⌜ saysThrown c ≡ throwable (now (cells .entry)) p e ⌝ }
 {
     if p < 1 {
         return Thrown::Refused(5);
     }
     let n = cells[p - 1];
     if n == 0 {
-        return Thrown::Nothing;
+        return Thrown::Found(Throw::Zero);
     }
     if e == 0 {
         return Thrown::Refused(7);
     }
-    Thrown::Code(n)
+    Thrown::Found(Throw::Code(n))
+}
+
+// EXIT leaves the top level, or the program where there is none.
+pub(crate) fn can_exit(s: usize) -> Exit
+    ensures { λ c. ⌜ saysExit c ≡ exitable s ⌝ }
+{
+    if s == 0 {
+        return Exit::Program;
+    }
+    Exit::Level
 }
 
 // S after R>, R being lowered already: the top level goes if R is not greater than its copy.

@@ -3,24 +3,29 @@ use crate::Done;
 use crate::cells;
 use crate::jumps;
 use word::OneCell;
-ghost use Prim.Native.Nat.{_≤_};
-ghost use Rattle.run.specs.Promises.{Carries, Unlinked, Unlisted};
+ghost use Prim.Native.Nat.{_≤_, _<_};
+ghost use Rattle.run.specs.Answers.{saysDone};
+ghost use Rattle.run.specs.Promises.{Carries, Unlinked};
 
-// Branches; every code that is left is unknown.
-fn others(code: u8, operand: u32, next: u32, cells: &mut [u32; 64], p: usize, flag: u32) -> Done
-    requires { ⌜ (p ≤ 64) × Unlisted code ⌝ }
-    ensures { λ r. ⌜ Carries code operand next (now (cells .entry)) p flag (now (cells .exit)) r ⌝ }
+// BEQ and BRA
+pub(crate) fn branches(
+    code: u8,
+    operand: u32,
+    next: u32,
+    cells: &mut [u32; 64],
+    p: usize,
+    flag: u32,
+) -> Done
+    requires { ⌜ (p ≤ 64) × (0x80 ≤ code) ⌝ }
+    ensures { λ r. ⌜ Carries code operand next (now (cells .entry)) p flag (now (cells .exit)) (saysDone r) ⌝ }
 {
     if 0xBF < code {
         return jumps::branch(cells, operand, p, flag, next);
     }
-    if 0x7F < code {
-        return jumps::branch_on_zero(cells, operand, p, flag, next);
-    }
-    Done::Refused(4)
+    jumps::branch_on_zero(cells, operand, p, flag, next)
 }
 
-// Every code but those that the linked stacks, memory and the cells in view have a part in.
+// Every code below 80 but those that the linked stacks, memory and the cells in view have a part in; what is left is unknown.
 pub(crate) fn on_cells(
     code: u8,
     operand: u32,
@@ -29,8 +34,8 @@ pub(crate) fn on_cells(
     p: usize,
     flag: u32,
 ) -> Done
-    requires { ⌜ (p ≤ 64) × Unlinked code ⌝ }
-    ensures { λ r. ⌜ Carries code operand next (now (cells .entry)) p flag (now (cells .exit)) r ⌝ }
+    requires { ⌜ (p ≤ 64) × ((code < 0x80) × Unlinked code) ⌝ }
+    ensures { λ r. ⌜ Carries code operand next (now (cells .entry)) p flag (now (cells .exit)) (saysDone r) ⌝ }
 {
     match code {
         0x00 => cells::nothing(cells, p, flag, next),
@@ -77,6 +82,6 @@ pub(crate) fn on_cells(
         0x35 => cells::literal(cells, operand, p, flag, next),
         0x36 => cells::literal(cells, operand, p, flag, next),
         0x37 => jumps::jump(cells, p, flag, next),
-        _ => others(code, operand, next, cells, p, flag),
+        _ => Done::Refused(4),
     }
 }

@@ -1,19 +1,22 @@
 // The instruction at the program counter: its first byte first, then the bytes that its code asks for.
 use crate::Fetched;
 use crate::bytes;
+use machine::Machine;
 ghost use mathlib.Core.Path.{_≡_};
 ghost use Prim.Native.Nat.{_+_, _<_, _≤_};
 ghost use lib.ListN.{length};
-ghost use Rattle.machine.specs.Memory.{byteAt};
+ghost use Rattle.numbers.specs.Bytes.{byteAt};
+ghost use Rattle.machine.specs.Limits.{memoryLength};
 ghost use Rattle.machine.specs.Fetch.{instructionAt};
+ghost use Rattle.run.specs.Answers.{saysFetched};
 ghost use Rattle.run.specs.Promises.{fetchedOf, FetchedAt, OneByte};
 
 fn literal_byte(mem: &[u8], counter: u32) -> Fetched
-    requires { ⌜ (counter < 32768) × (length (now mem) ≡ 32768) ⌝ }
-    ensures { λ r. ⌜ FetchedAt 0x34 (now (mem .entry)) counter r ⌝ }
+    requires { ⌜ (counter < memoryLength) × (length (now mem) ≡ memoryLength) ⌝ }
+    ensures { λ r. ⌜ FetchedAt 0x34 (now (mem .entry)) counter (saysFetched r) ⌝ }
 {
     let at = counter as usize;
-    if 32768 < at + 2 {
+    if Machine::MEMORY < at + 2 {
         return Fetched::Refused(3);
     }
     Fetched::Instruction(
@@ -24,11 +27,11 @@ fn literal_byte(mem: &[u8], counter: u32) -> Fetched
 }
 
 fn literal_word(mem: &[u8], counter: u32) -> Fetched
-    requires { ⌜ (counter < 32768) × (length (now mem) ≡ 32768) ⌝ }
-    ensures { λ r. ⌜ FetchedAt 0x35 (now (mem .entry)) counter r ⌝ }
+    requires { ⌜ (counter < memoryLength) × (length (now mem) ≡ memoryLength) ⌝ }
+    ensures { λ r. ⌜ FetchedAt 0x35 (now (mem .entry)) counter (saysFetched r) ⌝ }
 {
     let at = counter as usize;
-    if 32768 < at + 3 {
+    if Machine::MEMORY < at + 3 {
         return Fetched::Refused(3);
     }
     Fetched::Instruction(
@@ -39,11 +42,11 @@ fn literal_word(mem: &[u8], counter: u32) -> Fetched
 }
 
 fn literal_long(mem: &[u8], counter: u32) -> Fetched
-    requires { ⌜ (counter < 32768) × (length (now mem) ≡ 32768) ⌝ }
-    ensures { λ r. ⌜ FetchedAt 0x36 (now (mem .entry)) counter r ⌝ }
+    requires { ⌜ (counter < memoryLength) × (length (now mem) ≡ memoryLength) ⌝ }
+    ensures { λ r. ⌜ FetchedAt 0x36 (now (mem .entry)) counter (saysFetched r) ⌝ }
 {
     let at = counter as usize;
-    if 32768 < at + 5 {
+    if Machine::MEMORY < at + 5 {
         return Fetched::Refused(3);
     }
     Fetched::Instruction(
@@ -55,27 +58,27 @@ fn literal_long(mem: &[u8], counter: u32) -> Fetched
 
 // JSL with its 24-bit address.
 fn subroutine(mem: &[u8], counter: u32) -> Fetched
-    requires { ⌜ (counter < 32768) × (length (now mem) ≡ 32768) ⌝ }
-    ensures { λ r. ⌜ FetchedAt 0x38 (now (mem .entry)) counter r ⌝ }
+    requires { ⌜ (counter < memoryLength) × (length (now mem) ≡ memoryLength) ⌝ }
+    ensures { λ r. ⌜ FetchedAt 0x38 (now (mem .entry)) counter (saysFetched r) ⌝ }
 {
     let at = counter as usize;
-    if 32768 < at + 4 {
+    if Machine::MEMORY < at + 4 {
         return Fetched::Refused(3);
     }
     Fetched::Instruction(
         0x38,
-        bytes::read_address(mem, at),
+        bytes::read_triple(mem, at + 1),
         std::num::wrapping_add_u32(counter, 4),
     )
 }
 
 // BEQ or BRA with the address that it names.
 fn branch(mem: &[u8], counter: u32, code: u8) -> Fetched
-    requires { ⌜ (counter < 32768) × ((length (now mem) ≡ 32768) × ((0x80 ≤ code) × (byteAt (now mem) counter ≡ code))) ⌝ }
-    ensures { λ r. ⌜ r ≡ fetchedOf (instructionAt (now (mem .entry)) counter) ⌝ }
+    requires { ⌜ (counter < memoryLength) × ((length (now mem) ≡ memoryLength) × ((0x80 ≤ code) × (byteAt (now mem) counter ≡ code))) ⌝ }
+    ensures { λ r. ⌜ saysFetched r ≡ fetchedOf (instructionAt (now (mem .entry)) counter) ⌝ }
 {
     let at = counter as usize;
-    if 32768 < at + 2 {
+    if Machine::MEMORY < at + 2 {
         return Fetched::Refused(3);
     }
     let next = std::num::wrapping_add_u32(counter, 2);
@@ -83,29 +86,29 @@ fn branch(mem: &[u8], counter: u32, code: u8) -> Fetched
     Fetched::Instruction(code, std::num::wrapping_add_u32(next, offset), next)
 }
 
-// Every other code is one byte, the unknown ones too.
+// Every other code below 80 is one byte, the unknown ones too.
 fn plain(mem: &[u8], counter: u32, code: u8) -> Fetched
-    requires { ⌜ (counter < 32768) × ((length (now mem) ≡ 32768) × ((OneByte code) × (byteAt (now mem) counter ≡ code))) ⌝ }
-    ensures { λ r. ⌜ r ≡ fetchedOf (instructionAt (now (mem .entry)) counter) ⌝ }
+    requires { ⌜ (counter < memoryLength) × ((length (now mem) ≡ memoryLength) × (((code < 0x80) × OneByte code) × (byteAt (now mem) counter ≡ code))) ⌝ }
+    ensures { λ r. ⌜ saysFetched r ≡ fetchedOf (instructionAt (now (mem .entry)) counter) ⌝ }
 {
-    if 0x7F < code {
-        return branch(mem, counter, code);
-    }
     Fetched::Instruction(code, 0, std::num::wrapping_add_u32(counter, 1))
 }
 
 pub(crate) fn fetch(mem: &[u8], counter: u32) -> Fetched
-    requires { ⌜ length (now mem) ≡ 32768 ⌝ }
-    ensures { λ r. ⌜ r ≡ fetchedOf (instructionAt (now (mem .entry)) counter) ⌝ }
+    requires { ⌜ length (now mem) ≡ memoryLength ⌝ }
+    ensures { λ r. ⌜ saysFetched r ≡ fetchedOf (instructionAt (now (mem .entry)) counter) ⌝ }
 {
     let at = counter as usize;
-    if 32767 < at {
+    if Machine::MEMORY <= at {
         return Fetched::Refused(3);
     }
     let code = mem[at];
     // Most codes lie below those that bytes follow.
     if code < 0x34 {
         return plain(mem, counter, code);
+    }
+    if 0x7F < code {
+        return branch(mem, counter, code);
     }
     match code {
         0x34 => literal_byte(mem, counter),

@@ -6,7 +6,7 @@ ghost use Rattle.machine.specs.State.{wellFormed};
 pub(crate) fn well_formed(machine: Machine) -> bool
     ensures { λ b. ⌜ b ≡ wellFormed machine ⌝ }
 {
-    if 64 < machine.p {
+    if Machine::CELLS < machine.p {
         return false;
     }
     if 1 < machine.flag {

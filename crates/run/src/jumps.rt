@@ -2,13 +2,14 @@
 use crate::Done;
 use crate::Stack;
 ghost use Prim.Native.Nat.{ℕ, _≤_};
-ghost use Rattle.machine.specs.Codes.{JMP, BEQ, BRA};
+ghost use Rattle.machine.specs.Codes.{JUMP, JMP, BEQ, BRA};
+ghost use Rattle.run.specs.Answers.{saysDone};
 ghost use Rattle.run.specs.Promises.{Meets};
 
 // ( address -- )
 pub(crate) fn jump(cells: &mut [u32; 64], p: usize, flag: u32, next: u32) -> Done
     requires { ⌜ p ≤ 64 ⌝ }
-    ensures { λ r. ⌜ ((operand : ℕ) → Meets JMP 1 operand next (now (cells .entry)) p flag (now (cells .exit)) r) ⌝ }
+    ensures { λ r. ⌜ ((operand : ℕ) → Meets (JUMP JMP) 1 operand next (now (cells .entry)) p flag (now (cells .exit)) (saysDone r)) ⌝ }
 {
     if p < 1 {
         return Done::Refused(5);
@@ -30,7 +31,7 @@ pub(crate) fn branch_on_zero(
     next: u32,
 ) -> Done
     requires { ⌜ p ≤ 64 ⌝ }
-    ensures { λ r. ⌜ Meets BEQ 1 operand next (now (cells .entry)) p flag (now (cells .exit)) r ⌝ }
+    ensures { λ r. ⌜ Meets (JUMP BEQ) 1 operand next (now (cells .entry)) p flag (now (cells .exit)) (saysDone r) ⌝ }
 {
     if p < 1 {
         return Done::Refused(5);
@@ -53,7 +54,7 @@ pub(crate) fn branch_on_zero(
 // ( -- ) BRA
 pub(crate) fn branch(cells: &mut [u32; 64], operand: u32, p: usize, flag: u32, next: u32) -> Done
     requires { ⌜ p ≤ 64 ⌝ }
-    ensures { λ r. ⌜ Meets BRA 0 operand next (now (cells .entry)) p flag (now (cells .exit)) r ⌝ }
+    ensures { λ r. ⌜ Meets (JUMP BRA) 0 operand next (now (cells .entry)) p flag (now (cells .exit)) (saysDone r) ⌝ }
 {
     Done::Went(Stack {
         flag,

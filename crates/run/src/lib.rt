@@ -8,33 +8,34 @@ mod dispatch;
 mod fetch;
 mod formed;
 mod jumps;
-mod numbers;
+mod leave;
 mod place;
-mod turn;
+mod price;
+mod round;
+mod tally;
 
 use machine::Cycles;
 use machine::Machine;
 use machine::Ran;
 use machine::Steps;
 ghost use mathlib.Core.Path.{_≡_};
-ghost use Rattle.machine.specs.Run.{runOf};
-ghost use Rattle.run.specs.Promises.{afterOf};
+ghost use Rattle.machine.specs.Run.{runOf, afterOf};
 
 // Runs a machine on a lent memory of any length, under a budget of any number of steps. Memory of another length than
 // 32,768, a budget above 1,000,000 or a state that is not well formed answers 2 and alters nothing.
 pub fn run(mem: &mut [u8], machine: Machine, budget: u32) -> Ran
     ensures { λ ran. ⌜ afterOf (now (mem .exit)) ran ≡ runOf (now (mem .entry)) machine budget ⌝ }
 {
-    if mem.len() != 32768 {
-        return turn::ended(2, Steps(0), Cycles(0), machine);
+    if mem.len() != Machine::MEMORY {
+        return round::ended(2, Steps(0), Cycles(0), machine);
     }
-    if 1000000 < budget {
-        return turn::ended(2, Steps(0), Cycles(0), machine);
+    if Machine::BUDGET < budget {
+        return round::ended(2, Steps(0), Cycles(0), machine);
     }
     if formed::well_formed(machine) {
-        return turn::turns(mem, machine, budget);
+        return round::rounds(mem, machine, budget);
     }
-    turn::ended(2, Steps(0), Cycles(0), machine)
+    round::ended(2, Steps(0), Cycles(0), machine)
 }
 
 // The instruction at the program counter: its code, its operand and the address of the following one; or a refusal's number.
@@ -62,25 +63,46 @@ enum Checked {
     Refused(u32),
 }
 
-// What THROW finds: a zero, a code to throw, or a refusal.
-enum Thrown {
-    Nothing,
+// What EXIT leaves: a subroutine level, or, with S = 0, the program.
+enum Exit {
+    Level,
+    Program,
+}
+
+// What THROW takes from the parameter stack.
+enum Throw {
+    Zero,
     Code(u32),
+}
+
+enum Thrown {
+    Found(Throw),
     Refused(u32),
 }
 
-// What a fetch finds: a value from memory, a local or an exception cell to read, or a refusal.
-enum Loaded {
-    Value(u32),
-    FromLocal(usize),
-    FromCell(usize),
+// Where a fetch or a store reaches: memory from this address, this local of level S, this cell of level E.
+enum Spot {
+    Memory(usize),
+    Local(usize),
+    Cell(usize),
+}
+
+enum Reached {
+    At(Spot),
     Refused(u32),
 }
 
-// What a store did or finds: written to memory, a local or an exception cell to write, or a refusal.
-enum Stored {
-    Written,
-    ToLocal(usize),
-    ToCell(usize),
-    Refused(u32),
+// P, R, S, E, the program counter and the flag; what is left of the budget and the cycles so far; and, once the run is over,
+// its answer with what it did not spend.
+struct Registers {
+    p: usize,
+    r: usize,
+    s: usize,
+    e: usize,
+    counter: u32,
+    flag: u32,
+    left: Steps,
+    cycles: Cycles,
+    answer: u32,
+    unspent: Steps,
 }

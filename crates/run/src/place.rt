@@ -1,26 +1,28 @@
 // Where an access lies.
+use machine::Machine;
 use machine::Place;
 use machine::Width;
 ghost use mathlib.Core.Path.{_≡_};
 ghost use Prim.Native.Nat.{_+_, _-_, _/_, _<_, _≤_, _^_};
 ghost use lib.Dec.{leb};
 ghost use Rattle.plain.specs.Choice.{pick};
-ghost use Rattle.machine.specs.Memory.{placeOf, stands};
+ghost use Rattle.machine.specs.Limits.{memoryLength};
+ghost use Rattle.machine.specs.Memory.{placeOf, stands, firstLocal, lastLocal, firstCell, lastCell};
 ghost use Rattle.machine.specs.declared.Place.the-variants.{Memory, Local, Cell, Nowhere};
 ghost use Rattle.machine.specs.declared.Width.the-variants.{Long};
 
 fn in_memory(at: usize, size: usize) -> Place
     requires { ⌜ (at < 2 ^ 32) × (size ≤ 4) ⌝ }
-    ensures { λ r. ⌜ r ≡ pick (leb (at + size) 32768) (Memory at) Nowhere ⌝ }
+    ensures { λ r. ⌜ r ≡ pick (leb (at + size) memoryLength) (Memory at) Nowhere ⌝ }
 {
-    if at + size <= 32768 {
+    if at + size <= Machine::MEMORY {
         return Place::Memory(at);
     }
     Place::Nowhere
 }
 
 fn cell_at(at: usize) -> Place
-    ensures { λ r. ⌜ r ≡ pick (stands 0x10000 0x1003C at) (Local ((at - 0x10000) / 4)) (pick (stands 0x10040 0x1005C at) (Cell ((at - 0x10040) / 4)) Nowhere) ⌝ }
+    ensures { λ r. ⌜ r ≡ pick (stands firstLocal lastLocal at) (Local ((at - firstLocal) / 4)) (pick (stands firstCell lastCell at) (Cell ((at - firstCell) / 4)) Nowhere) ⌝ }
 {
     if at < 0x10000 {
         return Place::Nowhere;
@@ -53,7 +55,7 @@ fn long_place(at: usize) -> Place
     requires { ⌜ at < 2 ^ 32 ⌝ }
     ensures { λ r. ⌜ r ≡ placeOf Long at ⌝ }
 {
-    if at + 4 <= 32768 {
+    if at + 4 <= Machine::MEMORY {
         return Place::Memory(at);
     }
     cell_at(at)

@@ -1,7 +1,7 @@
 -- Answer 2 is tested first, clause by clause; then the loop runs.
 use mathlib.Core.Bool.{true, false}
 use native.Mathlib.Omega.{arith}
-use Rattle.run.specs.Promises.{afterOf}
+use Rattle.machine.specs.Run.{afterOf}
 use Rattle.run.proofs.Entry.{wrong-length, wrong-budget, judged, declined, taken}
 use borrow.Author.Needs.{needs}
 use Rattle.run.proofs.run.Statement.{statement}
@@ -26,8 +26,8 @@ returns-2 c =
 well-formed-requires : tie.Need-well-formed-requires
 well-formed-requires c κs = search needs
 
-turns-requires : tie.Need-turns-requires
-turns-requires c κs =
+rounds-requires : tie.Need-rounds-requires
+rounds-requires c κs =
     let a = c .before .before .before .before .before .before .args in
     judged (a .mem .now) (a .machine) (a .budget) (omega arith) (omega arith) (c .before .before .well-formed .result) (c .before .before .well-formed .ensures) true (c .before .if3 .taken)
 
@@ -38,7 +38,7 @@ returns-3 : tie.Need-returns-3
 returns-3 c =
     let a = c .before .before .before .before .before .before .before .before .before .args in
     taken (a .mem .now) (a .machine) (a .budget) (judged (a .mem .now) (a .machine) (a .budget) (omega arith) (omega arith) (c .before .before .before .before .before .well-formed .result) (c .before .before .before .before .before .well-formed .ensures) true (c .before .before .before .before .if3 .taken))
-    (afterOf (c .before .before .turns .last .0) (c .before .before .turns .result)) (c .before .before .turns .ensures)
+    (afterOf (c .before .before .rounds .last .0) (c .before .before .rounds .result)) (c .before .before .rounds .ensures)
 
 ended-requires-3 : tie.Need-ended-requires-3
 ended-requires-3 c κs = search needs
@@ -57,7 +57,7 @@ run-spec =
     ended-requires-2
     returns-2
     well-formed-requires
-    turns-requires
+    rounds-requires
     same-length
     returns-3
     ended-requires-3

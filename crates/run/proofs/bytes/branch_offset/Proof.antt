@@ -1,19 +1,13 @@
--- The same sum, of the same two bytes.
+-- The offset is below 2^14, so its sign bit adds at most 2^32 - 2^14.
+use mathlib.Core.Path.{ap}
+use native.Mathlib.Omega.{arith}
+use Rattle.machine.specs.Fetch.{extended}
 use borrow.Author.Needs.{needs}
 use Rattle.run.proofs.bytes.branch_offset.Statement.{statement}
 use Rattle.run.proofs.bytes.branch_offset.Tie as tie
 
-wide-requires : tie.Need-wide-requires
-wide-requires c κs = search needs
-
-mul-offset : tie.Need-mul-offset
-mul-offset c = search needs
-
-wide-requires-2 : tie.Need-wide-requires-2
-wide-requires-2 c κs = search needs
-
-add-offset : tie.Need-add-offset
-add-offset c = search needs
+two-bytes-requires : tie.Need-two-bytes-requires
+two-bytes-requires c κs = search needs
 
 mul-result : tie.Need-mul-result
 mul-result c = search needs
@@ -22,10 +16,13 @@ add-result : tie.Need-add-result
 add-result c = search needs
 
 returns : tie.Need-returns
-returns c =
-    rw (c .before .wide .ensures, c .wide2 .ensures)
+returns c = ap extended (c .two-bytes .ensures)
 
 pub branch-offset-spec : {M : Type 1} → statement M
 branch-offset-spec =
     tie.close
-    (tie.spec wide-requires mul-offset wide-requires-2 add-offset mul-result add-result returns)
+    (tie.spec
+    two-bytes-requires
+    mul-result
+    add-result
+    returns)

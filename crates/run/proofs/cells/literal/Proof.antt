@@ -10,7 +10,7 @@ push-requires c κs = search needs
 
 returns : tie.Need-returns
 returns c =
-    let a = c .before .before .args in rw (c .push .ensures .0, c .push .ensures .1) (λ w. literal-pushed (a .operand) (a .next) (a .cells .now) (a .p) (a .flag) w (omega arith))
+    let a = c .before .before .args in rw (c .push .ensures .0, c .push .ensures .1) (literal-pushed (a .operand) (a .next) (a .cells .now) (a .p) (a .flag) (omega arith))
 
 pub literal-spec : {M : Type 1} → statement M
 literal-spec = tie.close (tie.spec push-requires returns)

@@ -1,12 +1,12 @@
 -- The test is the definition's own, on both ways.
-use borrow.Author.Tests.{lt-ltb, le-ltb}
+use borrow.Author.Tests.{lt-leb, le-leb}
 use borrow.Author.Needs.{needs}
 use Rattle.run.proofs.cells.push.Statement.{statement}
 use Rattle.run.proofs.cells.push.Tie as tie
 
 returns : tie.Need-returns
 returns c =
-    let e = lt-ltb 63 (c .before .args .p) (c .if1 .taken) in (rw e, rw e)
+    let e = le-leb 64 (c .before .args .p) (c .if1 .taken) in (rw e, rw e)
 
 mul-cells : tie.Need-mul-cells
 mul-cells c = search needs
@@ -19,7 +19,7 @@ add-t7 c = search needs
 
 returns-2 : tie.Need-returns-2
 returns-2 c =
-    let e = le-ltb 63 (c .before .args .p) (c .if1 .left) in (rw e, rw e)
+    let e = lt-leb 64 (c .before .args .p) (c .if1 .left) in (rw e, rw e)
 
 pub push-spec : {M : Type 1} → statement M
 push-spec = tie.close (tie.spec returns mul-cells element-write-cells add-t7 returns-2)

@@ -1,9 +1,10 @@
 -- Both branches are two bytes; the target wraps.
-use Rattle.run.proofs.Fetching.{branch-cut, branch-whole}
+use Rattle.run.proofs.Fetching.{cut, whole, branch-follows}
 use native.Mathlib.Omega.{arith}
 use mathlib.Core.Path.{_≡_, _∙_, ap, sym}
 use Prim.Native.Nat.{ℕ, _+_, _*_, _%_, _^_}
-use Rattle.machine.specs.Memory.{byteAt}
+use Rattle.numbers.specs.Bytes.{byteAt}
+use Rattle.machine.specs.Codes.{offset}
 use Rattle.machine.specs.Fetch.{extended}
 use borrow.Author.Needs.{needs}
 use Rattle.run.proofs.fetch.branch.Statement.{statement}
@@ -14,7 +15,7 @@ add-if1 c = search needs
 
 returns : tie.Need-returns
 returns c =
-    let a = c .before .before .args in branch-cut (a .mem .now) (a .counter) (a .code) (c .before .before .pre .1 .1 .1) (omega arith) (omega arith) (c .if1 .taken)
+    let a = c .before .before .args in cut (a .mem .now) (a .counter) (a .code) offset (c .before .before .pre .1 .1 .1) (branch-follows (a .code) (omega arith)) (omega arith) (c .if1 .taken)
 
 wrapping-add-u32-requires : tie.Need-wrapping-add-u32-requires
 wrapping-add-u32-requires c κs = search needs
@@ -36,7 +37,7 @@ returns-2 c =
     let a = c .before .before .before .before .before .before .args in
     let next = c .before .before .before .wrapping-add-u32 in
     let exact : next .result ≡ a .counter + 2 = omega (arith, next .ensures) in
-    branch-whole (a .mem .now) (a .counter) (a .code) (c .before .before .before .before .before .before .pre .1 .1 .1) (omega arith) (omega arith) (c .wrapping-add-u322 .result) (next .result) (omega arith)
+    whole (a .mem .now) (a .counter) (a .code) offset (c .before .before .before .before .before .before .pre .1 .1 .1) (branch-follows (a .code) (omega arith)) (omega arith) (c .wrapping-add-u322 .result) (next .result) (omega arith)
     (c .wrapping-add-u322 .ensures ∙
     (ap (λ (x : ℕ). (x + c .before .branch-offset .result) % 2 ^ 32) exact ∙
     (ap (λ (x : ℕ). (a .counter + 2 + x) % 2 ^ 32) (c .before .branch-offset .ensures) ∙

@@ -1,9 +1,8 @@
 -- The code's entry says how many bytes follow.
-use Rattle.run.proofs.Fetching.{cut, whole}
 use mathlib.Core.Path.{refl}
 use native.Mathlib.Omega.{arith}
-use Rattle.machine.specs.Codes.{entryAt, table, LITERAL}
-use Rattle.machine.specs.declared.Width.the-variants.{Byte}
+use Rattle.machine.specs.Codes.{entryAt, table, number}
+use Rattle.run.proofs.Fetching.{cut, whole}
 use borrow.Author.Needs.{needs}
 use Rattle.run.proofs.fetch.literal_byte.Statement.{statement}
 use Rattle.run.proofs.fetch.literal_byte.Tie as tie
@@ -14,7 +13,8 @@ add-if1 c = search needs
 returns : tie.Need-returns
 unfolding entryAt table
 returns c =
-    let a = c .before .before .args in λ stands. cut (a .mem .now) (a .counter) 0x34 (LITERAL Byte) 2 0 1 2 stands refl (omega arith) (c .if1 .taken)
+    let a = c .before .before .args in
+    λ stands. cut (a .mem .now) (a .counter) 0x34 (number 1) stands refl (omega arith) (c .if1 .taken)
 
 add-literal-byte : tie.Need-add-literal-byte
 add-literal-byte c = search needs
@@ -28,15 +28,11 @@ wrapping-add-u32-requires c κs = search needs
 returns-2 : tie.Need-returns-2
 unfolding entryAt table
 returns-2 c =
-    let a = c .before .before .before .before .args in λ stands. whole (a .mem .now) (a .counter) 0x34 (LITERAL Byte) 2 0 1 2 stands refl (omega arith) (c .before .literal-byte .result) (c .wrapping-add-u32 .result) (omega arith) (c .before .literal-byte .ensures) (c .wrapping-add-u32 .ensures)
+    let a = c .before .before .before .before .args in
+    λ stands. whole (a .mem .now) (a .counter) 0x34 (number 1) stands refl (omega arith) (c .before .literal-byte .result) (c .wrapping-add-u32 .result) (omega arith)
+    (c .before .literal-byte .ensures) (c .wrapping-add-u32 .ensures)
 
 pub literal-byte-spec : {M : Type 1} → statement M
 literal-byte-spec =
     tie.close
-    (tie.spec
-    add-if1
-    returns
-    add-literal-byte
-    literal-byte-requires
-    wrapping-add-u32-requires
-    returns-2)
+    (tie.spec add-if1 returns add-literal-byte literal-byte-requires wrapping-add-u32-requires returns-2)

@@ -1,8 +1,8 @@
 -- The code's entry says how many bytes follow.
-use Rattle.run.proofs.Fetching.{cut, whole}
 use mathlib.Core.Path.{refl}
 use native.Mathlib.Omega.{arith}
-use Rattle.machine.specs.Codes.{entryAt, table, JSL}
+use Rattle.machine.specs.Codes.{entryAt, table, number}
+use Rattle.run.proofs.Fetching.{cut, whole}
 use borrow.Author.Needs.{needs}
 use Rattle.run.proofs.fetch.subroutine.Statement.{statement}
 use Rattle.run.proofs.fetch.subroutine.Tie as tie
@@ -13,10 +13,14 @@ add-if1 c = search needs
 returns : tie.Need-returns
 unfolding entryAt table
 returns c =
-    let a = c .before .before .args in λ stands. cut (a .mem .now) (a .counter) 0x38 JSL 4 0 0 2 stands refl (omega arith) (c .if1 .taken)
+    let a = c .before .before .args in
+    λ stands. cut (a .mem .now) (a .counter) 0x38 (number 3) stands refl (omega arith) (c .if1 .taken)
 
-read-address-requires : tie.Need-read-address-requires
-read-address-requires c κs = search needs
+add-read-triple : tie.Need-add-read-triple
+add-read-triple c = search needs
+
+read-triple-requires : tie.Need-read-triple-requires
+read-triple-requires c κs = search needs
 
 wrapping-add-u32-requires : tie.Need-wrapping-add-u32-requires
 wrapping-add-u32-requires c κs = search needs
@@ -24,8 +28,11 @@ wrapping-add-u32-requires c κs = search needs
 returns-2 : tie.Need-returns-2
 unfolding entryAt table
 returns-2 c =
-    let a = c .before .before .before .before .args in λ stands. whole (a .mem .now) (a .counter) 0x38 JSL 4 0 0 2 stands refl (omega arith) (c .before .read-address .result) (c .wrapping-add-u32 .result) (omega arith) (c .before .read-address .ensures) (c .wrapping-add-u32 .ensures)
+    let a = c .before .before .before .before .args in
+    λ stands. whole (a .mem .now) (a .counter) 0x38 (number 3) stands refl (omega arith) (c .before .read-triple .result) (c .wrapping-add-u32 .result) (omega arith)
+    (c .before .read-triple .ensures) (c .wrapping-add-u32 .ensures)
 
 pub subroutine-spec : {M : Type 1} → statement M
 subroutine-spec =
-    tie.close (tie.spec add-if1 returns read-address-requires wrapping-add-u32-requires returns-2)
+    tie.close
+    (tie.spec add-if1 returns add-read-triple read-triple-requires wrapping-add-u32-requires returns-2)

@@ -1,0 +1,27 @@
+-- The machine, its linked stacks, an instruction and a result, each made of its parts.
+use mathlib.Core.Bool.{false}
+use mathlib.Core.List.{List}
+use Prim.Native.Nat.{ℕ}
+use Rattle.links.specs.declared.Frame.{Frame}
+use Rattle.links.specs.declared.Level.{Level}
+use Rattle.links.specs.declared.Links.{Links}
+use Rattle.machine.specs.Fetch.{Instruction}
+use Rattle.machine.specs.declared.Machine.{Machine}
+use Rattle.machine.specs.declared.Steps.{Steps}
+use Rattle.machine.specs.declared.Cycles.{Cycles}
+use Rattle.machine.specs.declared.Ran.{Ran}
+
+abbrev pub machineOf : List ℕ → ℕ → Links → ℕ → ℕ → Machine
+machineOf cells p links counter flag =
+    record { cells = cells; p = p; links = links; counter = counter; flag = flag }
+
+abbrev pub linksOf : List ℕ → ℕ → List Frame → ℕ → List Level → ℕ → Links
+linksOf returns r frames s levels e =
+    record { returns = returns; r = r; frames = frames; s = s; levels = levels; e = e }
+
+-- an instruction all of whose bytes are in memory
+abbrev pub inside : ℕ → ℕ → ℕ → Instruction
+inside code operand next = record { code = code; operand = operand; next = next; outside = false }
+
+abbrev pub ranOf : ℕ → Steps → Cycles → Machine → Ran
+ranOf answer steps cycles machine = record { answer = answer; steps = steps; cycles = cycles; machine = machine }

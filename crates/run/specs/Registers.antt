@@ -1,0 +1,66 @@
+-- The run's registers: the machine that they make with its arrays, and what they become.
+use mathlib.Core.List.{List}
+use Prim.Native.Nat.{ℕ, _+_, _-_}
+use Rattle.plain.specs.Answer.{Answer, refuses, gives}
+use Rattle.links.specs.declared.Frame.{Frame}
+use Rattle.links.specs.declared.Level.{Level}
+use Rattle.machine.specs.declared.Machine.{Machine}
+use Rattle.run.specs.Machines.{machineOf, linksOf}
+use Rattle.run.specs.declared.Registers.{Registers}
+
+abbrev pub machineIn : List ℕ → List ℕ → List Frame → List Level → Registers → Machine
+machineIn cells returns frames levels g =
+    machineOf cells (g .p) (linksOf returns (g .r) frames (g .s) levels (g .e)) (g .counter) (g .flag)
+
+-- P, R, S, E, the counter and the flag anew
+abbrev pub movedTo : Registers → ℕ → ℕ → ℕ → ℕ → ℕ → ℕ → Registers
+movedTo g p r s e counter flag =
+    record {
+      p = p;
+      r = r;
+      s = s;
+      e = e;
+      counter = counter;
+      flag = flag;
+      left = g .left;
+      cycles = g .cycles;
+      answer = g .answer;
+      unspent = g .unspent;
+    }
+
+-- one more step, and its cycles
+abbrev pub countedTo : Registers → ℕ → Registers
+countedTo g price =
+    record {
+      p = g .p;
+      r = g .r;
+      s = g .s;
+      e = g .e;
+      counter = g .counter;
+      flag = g .flag;
+      left = record { 0 = g .left .0 - 1 };
+      cycles = record { 0 = g .cycles .0 + price };
+      answer = g .answer;
+      unspent = g .unspent;
+    }
+
+-- the run is over: nothing is left to spend, and what was not spent is kept
+abbrev pub haltedAt : Registers → ℕ → Registers
+haltedAt g answer =
+    record {
+      p = g .p;
+      r = g .r;
+      s = g .s;
+      e = g .e;
+      counter = g .counter;
+      flag = g .flag;
+      left = record { 0 = 0 };
+      cycles = g .cycles;
+      answer = answer;
+      unspent = g .left;
+    }
+
+-- an answer that refuses ends the run with its number
+abbrev pub haltedBy : {A : Type 0} → Answer A → Registers → Registers
+haltedBy (refuses number) g = haltedAt g number
+haltedBy (gives values) g = g
