@@ -1,0 +1,75 @@
+/* A host: runs an image in slices of a given number of steps, and shows the machine after each slice.
+
+   slices IMAGE-FILE STEPS prints the bench program's line after each slice, with all steps and cycles so far, and after the last
+   one the parameter cells too. With one slice that is what the bench program prints. */
+
+#include <inttypes.h>
+#include <stdio.h>
+#include <stdlib.h>
+
+#include "glidecotton.h"
+#include "load.h"
+
+struct counted {
+    uint64_t answer, steps, cycles;
+};
+
+static uint64_t number(const uint8_t *bytes, int width) {
+    uint64_t value = 0;
+    for (int i = 0; i < width; i++) value = value << 8 | bytes[i];
+    return value;
+}
+
+static uint64_t pointer(const uint8_t *state, size_t at) { return number(state + at, 8); }
+static uint64_t cell(const uint8_t *state, size_t at) { return number(state + at, 4); }
+
+static void show_line(struct counted all, const uint8_t *state) {
+    printf("%" PRIu64 " %" PRIu64 " %" PRIu64 " %" PRIu64 " ", all.answer, all.steps, all.cycles, cell(state, GLIDECOTTON_COUNTER));
+    printf("%" PRIu64 " %" PRIu64 " ", pointer(state, GLIDECOTTON_P), pointer(state, GLIDECOTTON_R));
+    printf("%" PRIu64 " %" PRIu64 "\n", pointer(state, GLIDECOTTON_S), pointer(state, GLIDECOTTON_E));
+}
+
+static void show_cells(const uint8_t *state) {
+    uint64_t depth = pointer(state, GLIDECOTTON_P);
+    for (uint64_t i = 0; i < depth; i++) printf("%08" PRIX64 "\n", cell(state, GLIDECOTTON_CELLS + 4 * i));
+}
+
+/* One call of the library; the state is ready for the next call. */
+static struct counted run_slice(uint8_t *state, uint8_t *memory, uint64_t steps) {
+    uint8_t result[GLIDECOTTON_RESULT];
+    if (glidecotton_run_state(state, GLIDECOTTON_STATE, memory, GLIDECOTTON_MEMORY, steps, result, sizeof result) != 0) abort();
+    return (struct counted){pointer(result, GLIDECOTTON_ANSWER), pointer(result, GLIDECOTTON_STEPS), pointer(result, GLIDECOTTON_CYCLES)};
+}
+
+/* Slices until the machine stops by itself or the image's own budget is spent. */
+static void run_all(struct loaded *image, uint64_t slice) {
+    struct counted all = {0, 0, 0};
+    for (;;) {
+        uint64_t left = image->budget - all.steps;
+        struct counted now = run_slice(image->state, image->memory, slice < left ? slice : left);
+        all = (struct counted){now.answer, all.steps + now.steps, all.cycles + now.cycles};
+        show_line(all, image->state);
+        if (all.answer != 1 || all.steps == image->budget) break;
+    }
+    show_cells(image->state);
+}
+
+static int fail(const char *what, const char *why) {
+    fprintf(stderr, "slices: %s: %s\n", what, why);
+    return 1;
+}
+
+int main(int words, char **word) {
+    static struct loaded image;
+    char *end;
+    if (words != 3) return fail("usage", "slices IMAGE-FILE STEPS");
+    uint64_t slice = strtoull(word[2], &end, 10);
+    if (*end || slice < 1 || slice > GLIDECOTTON_BUDGET) return fail(word[2], "a slice is 1 to 1000000 steps");
+
+    switch (load(word[1], &image)) {
+    case UNREADABLE: return fail(word[1], "can't be read");
+    case REFUSED: puts("14"); break;
+    case GOOD: run_all(&image, slice); break;
+    }
+    return fflush(stdout) == 0 && !ferror(stdout) ? 0 : fail("standard output", "can't be written");
+}

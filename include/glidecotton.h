@@ -1,0 +1,58 @@
+/* The proved machine for hosts: what libglidecotton.a and libhost.a export (rt staticlib glidecotton, rt staticlib host).
+
+   Every function takes every buffer of every length and keeps no pointer. A caller hands each buffer with its own length, and no
+   two that overlap. Numbers in buffers are big endian. The libraries need memcpy and memset, and nothing else. */
+
+#ifndef GLIDECOTTON_H
+#define GLIDECOTTON_H
+
+#include <stddef.h>
+#include <stdint.h>
+
+enum {
+    GLIDECOTTON_MEMORY = 32768,        /* bytes of memory, no more and no fewer */
+    GLIDECOTTON_LONGEST_IMAGE = 33040, /* bytes of the longest good image file */
+    GLIDECOTTON_TEXT = 1024,           /* bytes that hold the text of every run */
+    GLIDECOTTON_BUDGET = 1000000,      /* the greatest budget of steps */
+    GLIDECOTTON_STATE = 3528,          /* bytes of a state */
+    GLIDECOTTON_RESULT = 24,           /* bytes of a result */
+    GLIDECOTTON_STACK = 16384          /* bytes of stack that are enough for a call: hosts/c/check measures it */
+};
+
+/* Where a state has what. All zeros are a fresh machine. A cell, an address, the counter and the flag take 4 bytes, a pointer or
+   a copy of one 8. */
+enum {
+    GLIDECOTTON_CELLS = 0,       /* 64 parameter cells, deepest first */
+    GLIDECOTTON_P = 256,         /* depth of the parameter stack */
+    GLIDECOTTON_RETURNS = 264,   /* 64 return cells, deepest first */
+    GLIDECOTTON_R = 520,         /* pointer of the return stack */
+    GLIDECOTTON_FRAMES = 528,    /* subroutine levels 0 to 32, 76 bytes each: 16 locals, copy of R, return address */
+    GLIDECOTTON_S = 3036,        /* pointer of the subroutine stack */
+    GLIDECOTTON_LEVELS = 3044,   /* exception levels 0 to 8, 52 bytes each: 8 cells, copy of S, copy of P, throw address */
+    GLIDECOTTON_E = 3512,        /* pointer of the exception stack */
+    GLIDECOTTON_COUNTER = 3520,  /* program counter */
+    GLIDECOTTON_FLAG = 3524      /* extend flag, 0 or 1 */
+};
+
+/* Where a result has what, 8 bytes each. */
+enum {
+    GLIDECOTTON_ANSWER = 0,      /* the answer of document 01: 0 to 13 */
+    GLIDECOTTON_STEPS = 8,       /* instructions that this run completed */
+    GLIDECOTTON_CYCLES = 16      /* their clock cycles */
+};
+
+/* Reads an image, runs it and writes the bench program's text.
+   memory: GLIDECOTTON_MEMORY bytes. out: GLIDECOTTON_TEXT bytes are always enough.
+   Returns how many bytes of out the text takes; the rest of out is untouched. A text is never 2 bytes long.
+   Returns 2 with out untouched where memory has another length, which is then untouched too, or where the text does not fit: then
+   the image has been run and memory is as the run left it. A refused image gives the text "14" and leaves memory untouched. */
+uint64_t glidecotton_bench(const uint8_t *image, size_t image_len, uint8_t *memory, size_t memory_len, uint8_t *out, size_t out_len);
+
+/* Runs a machine held as bytes for at most budget steps, and hands it back in the same bytes, ready for the next run.
+   Returns 0 with the result written. Answer 2 in it (a memory of another length, a budget above GLIDECOTTON_BUDGET or a state that
+   is not well formed) comes with no steps and no cycles, and with state and memory untouched.
+   Returns 2 with all untouched where state_len is not GLIDECOTTON_STATE or result_len not GLIDECOTTON_RESULT. */
+uint64_t glidecotton_run_state(uint8_t *state, size_t state_len, uint8_t *memory, size_t memory_len, uint64_t budget,
+                               uint8_t *result, size_t result_len);
+
+#endif
