@@ -12,6 +12,7 @@ use Rattle.plain.specs.All.{All}
 use Rattle.plain.specs.Laws.All.{all-read, all-set, all-sets}
 use Rattle.numbers.specs.Bytes.{bytesOf}
 use Rattle.numbers.specs.Laws.Bytes.{Bytes, number-below, bytes-first}
+use Rattle.links.specs.Linked.{frameAt, levelAt}
 use Rattle.links.specs.Fits.{CellFits, LinksFit}
 use Rattle.links.specs.Laws.Carries.{ActFits, frame-in-view, level-in-view, act-fits}
 use Rattle.word.specs.Dispatch.{twoCellsOf}
@@ -95,15 +96,17 @@ module _ (i : Instruction) (mem : List ℕ) (m : Machine) (operand-fits : CellFi
   return-fits : CellFits (topReturn m)
   return-fits = all-read CellFits (m .links .returns) (h .links-fit .returns-fit) (m .links .r - 1) 0 (omega arith)
 
+  -- the addresses in the levels in view
+  return-address : CellFits (frameAt (m .links) (m .links .s) .address)
+  return-address = frame-in-view (m .links) (whole .shaped) (formed .sound) (h .links-fit) .address-fits
+
+  throw-address : CellFits (levelAt (m .links) (m .links .e) .address)
+  throw-address = level-in-view (m .links) (whole .shaped) (formed .sound) (h .links-fit) .address-fits
+
   throw-fits : (b : Bool) → RowFits (pick b (cells i mem m []) (throwRow i mem m))
   throw-fits true = stays-fit [] tt
   throw-fits false =
-      record {
-        puts-fit = (cell-at _, tt);
-        goes-fits = level-in-view (m .links) (whole .shaped) (formed .sound) (h .links-fit) .address-fits;
-        link-fits = tt;
-        memory-fits = bytes;
-      }
+      record { puts-fit = (cell-at _, tt); goes-fits = throw-address; link-fits = tt; memory-fits = bytes }
 
   link-row-fits : (o : Link) → RowFits (linkRow i mem m o)
   link-row-fits >R = record { puts-fit = tt; goes-fits = next-fits; link-fits = cell-at _; memory-fits = bytes }
@@ -115,12 +118,7 @@ module _ (i : Instruction) (mem : List ℕ) (m : Machine) (operand-fits : CellFi
   link-row-fits JSL = record { puts-fit = tt; goes-fits = operand-fits; link-fits = next-fits; memory-fits = bytes }
   link-row-fits JSR = record { puts-fit = tt; goes-fits = cell-at _; link-fits = next-fits; memory-fits = bytes }
   link-row-fits EXIT =
-      record {
-        puts-fit = tt;
-        goes-fits = frame-in-view (m .links) (whole .shaped) (formed .sound) (h .links-fit) .address-fits;
-        link-fits = tt;
-        memory-fits = bytes;
-      }
+      record { puts-fit = tt; goes-fits = search (return-address, return-fits); link-fits = tt; memory-fits = bytes }
 
   two-row-fits : (o : Outcome) → CellsFit o → RowFits (twoRow i mem m o)
   two-row-fits (Single value flag) f = record { puts-fit = (f, tt); goes-fits = next-fits; link-fits = tt; memory-fits = bytes }
