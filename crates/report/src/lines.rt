@@ -13,6 +13,10 @@ ghost use Rattle.numbers.specs.Putting.{Added};
 ghost use Rattle.report.specs.Sizes.{longestField, longestLine, cellSize, mostCells};
 ghost use Rattle.report.specs.Text.{field, line, cellLine, cellLines, numbersOf};
 
+const SPACE: u8 = 0x20;
+
+pub(crate) const LINE_FEED: u8 = 0x0A;
+
 // A number and the character after it.
 pub(crate) fn put_field(text: &mut [u8], at: usize, value: u64, end: u8) -> usize
     requires { ⌜ at + longestField ≤ length (now text) ⌝ }
@@ -33,7 +37,7 @@ fn put_cell(text: &mut [u8], at: usize, value: u32) -> usize
     let Put::Until(last) = numbers::write_hexadecimal(text, at, CELL_DIGITS, value) else {
         return at;
     };
-    text[last] = 0x0A;
+    text[last] = LINE_FEED;
     last + 1
 }
 
@@ -65,10 +69,10 @@ pub(crate) fn put_line(text: &mut [u8], numbers: [u64; FIELDS]) -> usize
     let mut at = 0;
     let mut i = 0;
     while i < LAST {
-        at = put_field(text, at, numbers[i], 0x20);
+        at = put_field(text, at, numbers[i], SPACE);
         i += 1;
     }
-    put_field(text, at, numbers[LAST], 0x0A)
+    put_field(text, at, numbers[LAST], LINE_FEED)
 }
 
 // The lowest cells, the deepest first, each on its own line.
