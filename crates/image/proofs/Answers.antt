@@ -14,7 +14,7 @@ use Rattle.links.specs.Depths.{cellsDepth}
 use Rattle.plain.specs.Zeros.{padded}
 use Rattle.image.specs.Format.{budgetOf, limits}
 use Rattle.image.specs.Loading.{Handed, Read, wrong-memory, not-spelled, read, loadedFrom, refusedWith, otherMemory}
-use Rattle.image.specs.Judging.{badFile, valuesIn, judgedOf}
+use Rattle.image.specs.Judging.{badFile, stands, saysJudged, valuesIn, judgedOf}
 use Rattle.image.specs.Laws.Section.{elements-inside}
 use Rattle.image.specs.Laws.Sound.{GoodFile, imageIn, good-file, image-allowed, image-spells}
 use Rattle.image.specs.Laws.Computed.{none-spells}
@@ -63,7 +63,7 @@ module _ (file : List ℕ) (parts : Parts) where
       }
 
 -- the promise of a good file
-pub good-answer : (file before after : List ℕ) (handed : Handed) (parts : Parts) → Bytes file → length before ≡ memoryLength → judgedOf file ≡ judged.Good parts
+pub good-answer : (file before after : List ℕ) (handed : Handed) (parts : Parts) → Bytes file → length before ≡ memoryLength → judgedOf file ≡ stands parts
     → after ≡ padded memoryLength (imageIn file parts .memory) → handed ≡ loadedFrom (imageIn file parts) → Read file before after handed
 good-answer file before after handed parts bytes long h m l =
     let good = good-file file parts h in
@@ -74,7 +74,7 @@ good-answer file before after handed parts bytes long h m l =
 pub memory-refused : (file before : List ℕ) (handed : Handed) → (length before ≡ memoryLength → ⊥) → handed ≡ refusedWith otherMemory → Read file before before handed
 memory-refused file before handed other e = subst (λ (h : Handed). Read file before before h) (sym e) (wrong-memory other)
 
-pub file-refused : (file before : List ℕ) (handed : Handed) (j : Judged) (fault : Fault) → length before ≡ memoryLength → j ≡ judgedOf file
+pub file-refused : (file before : List ℕ) (handed : Handed) (j : Judged) (fault : Fault) → length before ≡ memoryLength → saysJudged j ≡ judgedOf file
     → j ≡ judged.Bad fault → handed ≡ refusedWith badFile → Read file before before handed
 file-refused file before handed j fault long is bad e =
-    subst (λ (h : Handed). Read file before before h) (sym e) (not-spelled long (none-spells file fault (sym is ∙ bad)))
+    subst (λ (h : Handed). Read file before before h) (sym e) (not-spelled long (none-spells file badFile fault (sym is ∙ ap saysJudged bad)))

@@ -11,7 +11,7 @@ ghost use Prim.Native.Nat.{_+_, _*_, _≤_};
 ghost use lib.ListN.{length};
 ghost use Rattle.numbers.specs.Bytes.{numberAt};
 ghost use Rattle.image.specs.Format.{limits, budgetOf, longestFile};
-ghost use Rattle.image.specs.Judging.{partAt, valuesIn};
+ghost use Rattle.image.specs.Judging.{partAt, saysMet, valuesIn};
 
 // The budget of a file that gives none.
 const DEFAULT_BUDGET: u32 = 10000;
@@ -59,7 +59,7 @@ pub(crate) fn limits_of(section: Section) -> Limits
 
 // A count is tested before a product is formed with it, so that none can wrap.
 pub(crate) fn part_at(file: &[u8], section: Section, at: usize) -> Met
-    ensures { λ r. ⌜ r ≡ partAt (now (file .entry)) section at ⌝ }
+    ensures { λ r. ⌜ saysMet r ≡ partAt (now (file .entry)) section at ⌝ }
 {
     let Found::Number(number) = numbers::read_four(file, at) else {
         return Met::Bad(Fault::Cut(section, at));

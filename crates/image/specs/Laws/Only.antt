@@ -2,12 +2,12 @@
 use mathlib.Core.List.{List}
 use mathlib.Core.Path.{_≡_, refl, sym, ap, _∙_}
 use Prim.Native.Nat.{ℕ}
-use lib.ListN.{length}
+use native.Mathlib.Omega.{arith}
 use Rattle.machine.specs.Limits.{memoryLength}
 use Rattle.plain.specs.Zeros.{padded}
 use Rattle.image.specs.Format.{Image, Allowed, spelled}
 use Rattle.image.specs.Loading.{Handed, Reading, Read, wrong-memory, not-spelled, read, loadedFrom}
-use Rattle.image.specs.Judging.{judgedOf, partsOf, Judges}
+use Rattle.image.specs.Judging.{stands, saysJudged, judgedOf, partsOf, Judges}
 use Rattle.image.specs.Laws.Sound.{imageIn}
 use Rattle.image.specs.Laws.Complete.{found, accepted}
 use Rattle.image.specs.declared.Judged.{Judged}
@@ -15,15 +15,21 @@ use Rattle.image.specs.declared.Judged.the-variants as judged
 
 pub only-image : (i j : Image) → Allowed i → Allowed j → spelled i ≡ spelled j → i ≡ j
 only-image i j a b e =
-    let same : judged.Good (partsOf i) ≡ judged.Good (partsOf j) = sym (accepted i a) ∙ ap judgedOf e ∙ accepted j b in
+    let same : stands (partsOf i) ≡ stands (partsOf j) = sym (accepted i a) ∙ ap judgedOf e ∙ accepted j b in
     let parts : partsOf i ≡ partsOf j = cc in
     sym (found i a)
     ∙ ap (λ (l : List ℕ). imageIn l (partsOf i)) e
     ∙ ap (imageIn (spelled j)) parts
     ∙ found j b
 
+pub same-judged : (a b : Judged) → saysJudged a ≡ saysJudged b → a ≡ b
+same-judged (judged.Bad f) (judged.Bad g) e = cc
+same-judged (judged.Bad f) (judged.Good p) e = absurd (let z : _≡_ {A = ℕ} 0 1 = cc in omega arith)
+same-judged (judged.Good p) (judged.Bad f) e = absurd (let z : _≡_ {A = ℕ} 0 1 = cc in omega arith)
+same-judged (judged.Good p) (judged.Good q) e = cc
+
 pub only-judge : (file : List ℕ) (a b : Judged) → Judges file a → Judges file b → a ≡ b
-only-judge file a b h k = h .clause ∙ sym (k .clause)
+only-judge file a b h k = same-judged a b (h .clause ∙ sym (k .clause))
 
 pub only-read : (file before m₁ m₂ : List ℕ) (h₁ h₂ : Handed) → Read file before m₁ h₁ → Read file before m₂ h₂
     → _≡_ {A = Reading} (record { memory = m₁; handed = h₁ }) (record { memory = m₂; handed = h₂ })

@@ -12,16 +12,12 @@ use Rattle.numbers.specs.Laws.Bytes.{Bytes}
 use Rattle.numbers.specs.Laws.Rows.{length-row-at, row-below}
 use Rattle.machine.specs.Limits.{mostBudget}
 use Rattle.image.specs.Format.{Image, Allowed, Within, limits, sectionOf, budgetOf, spelled}
-use Rattle.image.specs.Judging.{partAt, valuesIn, endJudged, after, judgedOf}
+use Rattle.image.specs.Judging.{Finding, fails, stands, partAt, valuesIn, endJudged, after, judgedOf}
 use Rattle.image.specs.Laws.Section.{WholeAt, whole-at, section-spelled}
 use Rattle.image.specs.declared.Section.{Section}
 use Rattle.image.specs.declared.Section.the-variants.{Memory, Cells, Budget}
 use Rattle.image.specs.declared.Part.{Part}
 use Rattle.image.specs.declared.Parts.{Parts}
-use Rattle.image.specs.declared.Met.{Met}
-use Rattle.image.specs.declared.Met.the-variants as met
-use Rattle.image.specs.declared.Judged.{Judged}
-use Rattle.image.specs.declared.Judged.the-variants as judged
 
 -- the image that stands in the parts of a file
 unfoldable pub imageIn : List ℕ → Parts → Image
@@ -37,12 +33,12 @@ pub record GoodFile (file : List ℕ) (parts : Parts) : Type 0 where
   pub ends : length file ≤ parts .budget .to
 
 -- the part after which a good answer went on
-went-on : (m : Met) (next : Part → Judged) (parts : Parts) → after m next ≡ judged.Good parts → (part : Part) × (m ≡ met.Whole part) × (next part ≡ judged.Good parts)
-went-on (met.Bad fault) next parts e = absurd (let z : _≡_ {A = ℕ} 0 1 = cc in omega arith)
-went-on (met.Whole part) next parts e = (part, refl, e)
+went-on : (m : Finding Part) (next : Part → Finding Parts) (parts : Parts) → after m next ≡ stands parts → (part : Part) × (m ≡ stands part) × (next part ≡ stands parts)
+went-on (fails number fault) next parts e = absurd (let z : _≡_ {A = ℕ} 0 1 = cc in omega arith)
+went-on (stands part) next parts e = (part, refl, e)
 
 -- a test that a good answer has passed
-passed : (t : Bool) (x y : Judged) (parts : Parts) → (x ≡ judged.Good parts → ⊥) → pick t x y ≡ judged.Good parts → (t ≡ false) × (y ≡ judged.Good parts)
+passed : (t : Bool) (x y : Finding Parts) (parts : Parts) → (x ≡ stands parts → ⊥) → pick t x y ≡ stands parts → (t ≡ false) × (y ≡ stands parts)
 passed true x y parts other e = absurd (other e)
 passed false x y parts other e = (refl, e)
 
@@ -50,13 +46,13 @@ module _ (file : List ℕ) where
   abbrev partsOf : Part → Part → Part → Parts
   partsOf memory cells budget = record { memory = memory; cells = cells; budget = budget }
 
-  abbrev afterCells : Part → Part → Judged
+  abbrev afterCells : Part → Part → Finding Parts
   afterCells memory cells = after (partAt file Budget (cells .to)) λ budget. endJudged file (partsOf memory cells budget)
 
-  abbrev afterMemory : Part → Judged
+  abbrev afterMemory : Part → Finding Parts
   afterMemory memory = after (partAt file Cells (memory .to)) (afterCells memory)
 
-  pub good-file : (parts : Parts) → judgedOf file ≡ judged.Good parts → GoodFile file parts
+  pub good-file : (parts : Parts) → judgedOf file ≡ stands parts → GoodFile file parts
   unfolding judgedOf endJudged
   good-file parts h =
       let one = went-on (partAt file Memory 0) afterMemory parts h in
