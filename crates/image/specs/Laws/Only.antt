@@ -5,11 +5,13 @@ use Prim.Native.Nat.{ℕ}
 use native.Mathlib.Omega.{arith}
 use Rattle.machine.specs.Limits.{memoryLength}
 use Rattle.plain.specs.Zeros.{padded}
-use Rattle.image.specs.Format.{Image, Allowed, spelled}
+use Rattle.image.specs.Format.{Image, Allowed, spelled, limits, longestFile}
 use Rattle.image.specs.Loading.{Handed, Reading, Read, wrong-memory, not-spelled, read, loadedFrom}
 use Rattle.image.specs.Judging.{stands, saysJudged, judgedOf, partsOf, Judges}
 use Rattle.image.specs.Laws.Sound.{imageIn}
 use Rattle.image.specs.Laws.Complete.{found, accepted}
+use Rattle.image.specs.declared.Section.{Section}
+use Rattle.image.specs.declared.Limits.{Limits}
 use Rattle.image.specs.declared.Judged.{Judged}
 use Rattle.image.specs.declared.Judged.the-variants as judged
 
@@ -21,6 +23,12 @@ only-image i j a b e =
     ∙ ap (λ (l : List ℕ). imageIn l (partsOf i)) e
     ∙ ap (imageIn (spelled j)) parts
     ∙ found j b
+
+pub only-limits : (s : Section) (a b : Limits) → a ≡ limits s → b ≡ limits s → a ≡ b
+only-limits s a b h k = h ∙ sym k
+
+pub only-longest : (a b : ℕ) → a ≡ longestFile → b ≡ longestFile → a ≡ b
+only-longest a b h k = h ∙ sym k
 
 pub same-judged : (a b : Judged) → saysJudged a ≡ saysJudged b → a ≡ b
 same-judged (judged.Bad f) (judged.Bad g) e = cc
