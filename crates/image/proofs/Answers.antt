@@ -12,7 +12,7 @@ use Rattle.machine.specs.State.{freshMachine, machineWith}
 use Rattle.machine.specs.Limits.{memoryLength}
 use Rattle.links.specs.Depths.{cellsDepth}
 use Rattle.plain.specs.Zeros.{padded}
-use Rattle.image.specs.Format.{budgetOf, limits, cellWidth}
+use Rattle.image.specs.Format.{budgetOf, cellWidth}
 use Rattle.image.specs.Loading.{Handed, Read, wrong-memory, not-spelled, read, loadedFrom, refusedWith, otherMemory}
 use Rattle.image.specs.Judging.{badFile, stands, saysJudged, valuesIn, judgedOf}
 use Rattle.image.specs.Laws.Section.{elements-inside}

@@ -1,5 +1,4 @@
 -- A judgement ends at the first fault, or at the end of a good file; so does that of one section.
-use mathlib.Core.Bool.{Bool}
 use mathlib.Core.List.{List}
 use mathlib.Core.Path.{_≡_, sym, ap, _∙_}
 use Prim.Native.Nat.{ℕ, _+_, _*_, _^_, _≤_, _<_}
@@ -22,7 +21,6 @@ use Rattle.image.specs.declared.Limits.{Limits}
 use Rattle.image.specs.declared.Fault.{Fault}
 use Rattle.image.specs.declared.Fault.the-variants as fault
 use Rattle.image.specs.declared.Part.{Part}
-use Rattle.image.specs.declared.Parts.{Parts}
 use Rattle.image.specs.declared.Met.{Met}
 use Rattle.image.specs.declared.Met.the-variants as met
 

@@ -17,7 +17,7 @@ use Rattle.image.specs.Loading.{Handed, Reading, Read, wrong-memory, not
 use Rattle.image.specs.Judging.{badFile, Finding, fails, stands, answerOf, saysJudged, judgedOf, partsOf, Says, spells, spells-none, Judges}
 use Rattle.image.specs.Laws.Sound.{imageIn, good-file, image-allowed, image-spells}
 use Rattle.image.specs.Laws.Complete.{accepted}
-use Rattle.image.specs.Laws.Only.{only-read}
+use Rattle.image.specs.Laws.Only.{only-reading}
 use Rattle.image.specs.declared.Fault.{Fault}
 use Rattle.image.specs.declared.Parts.{Parts}
 use Rattle.image.specs.declared.Judged.{Judged}
@@ -77,4 +77,4 @@ read-meets file before bytes = meets file before bytes (eqb (length before) memo
 pub computed : (file before after : List ℕ) (handed : Handed) → Bytes file → Read file before after handed
     → record { memory = after; handed = handed } ≡ readOf file before
 computed file before after handed bytes h =
-    only-read file before after (readOf file before .memory) handed (readOf file before .handed) h (read-meets file before bytes)
+    only-reading file before after (readOf file before .memory) handed (readOf file before .handed) h (read-meets file before bytes)

@@ -43,13 +43,13 @@ passed true x y parts other e = absurd (other e)
 passed false x y parts other e = (refl, e)
 
 module _ (file : List ℕ) where
-  abbrev partsOf : Part → Part → Part → Parts
-  partsOf memory cells budget = record { memory = memory; cells = cells; budget = budget }
+  abbrev pub partsFrom : Part → Part → Part → Parts
+  partsFrom memory cells budget = record { memory = memory; cells = cells; budget = budget }
 
-  abbrev afterCells : Part → Part → Finding Parts
-  afterCells memory cells = after (partAt file Budget (cells .to)) λ budget. endJudged file (partsOf memory cells budget)
+  abbrev pub afterCells : Part → Part → Finding Parts
+  afterCells memory cells = after (partAt file Budget (cells .to)) λ budget. endJudged file (partsFrom memory cells budget)
 
-  abbrev afterMemory : Part → Finding Parts
+  abbrev pub afterMemory : Part → Finding Parts
   afterMemory memory = after (partAt file Cells (memory .to)) (afterCells memory)
 
   pub good-file : (parts : Parts) → judgedOf file ≡ stands parts → GoodFile file parts
@@ -59,11 +59,11 @@ module _ (file : List ℕ) where
       let memory = one .0 in
       let two = went-on (partAt file Cells (memory .to)) (afterCells memory) parts (one .2) in
       let cells = two .0 in
-      let three = went-on (partAt file Budget (cells .to)) (λ (x : Part). endJudged file (partsOf memory cells x)) parts (two .2) in
+      let three = went-on (partAt file Budget (cells .to)) (λ (x : Part). endJudged file (partsFrom memory cells x)) parts (two .2) in
       let budget = three .0 in
       let four = passed (ltb mostBudget (budgetOf (valuesIn file Budget budget))) _ _ parts (λ e. let z : _≡_ {A = ℕ} 0 1 = cc in omega arith) (three .2) in
       let five = passed (ltb (budget .to) (length file)) _ _ parts (λ e. let z : _≡_ {A = ℕ} 0 1 = cc in omega arith) (four .1) in
-      let same : partsOf memory cells budget ≡ parts = cc (five .1) in
+      let same : partsFrom memory cells budget ≡ parts = cc (five .1) in
       subst (GoodFile file) same
       (record {
         memory-whole = whole-at file Memory 0 memory (one .1);
