@@ -5,6 +5,8 @@ pub mod Sound
 pub mod Complete
 -- where a fault has its place
 pub mod Faults
+-- a small file for each clause
+pub mod Cases
 -- no second answer
 pub mod Only
 -- the one answer as a computation
