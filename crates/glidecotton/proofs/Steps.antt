@@ -3,7 +3,7 @@ use mathlib.Core.List.{List}
 use mathlib.Core.Path.{_≡_, sym, ap, _∙_}
 use Prim.Native.Nat.{ℕ}
 use borrow.Author.Tests.{eq-eqb, ne-eqb}
-use Rattle.plain.specs.Answer.{Answer, refuses, gives}
+use Rattle.plain.specs.Answer.{refuses}
 use Rattle.machine.specs.Run.{After, runOf}
 use Rattle.image.specs.Loading.{Reading, Read, saysVerdict, handed, otherMemory}
 use Rattle.image.specs.declared.Loaded.{Loaded}

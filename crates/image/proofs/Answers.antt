@@ -12,9 +12,9 @@ use Rattle.machine.specs.State.{freshMachine, machineWith}
 use Rattle.machine.specs.Limits.{memoryLength}
 use Rattle.links.specs.Depths.{cellsDepth}
 use Rattle.plain.specs.Zeros.{padded}
-use Rattle.image.specs.Format.{budgetOf, limits}
+use Rattle.image.specs.Format.{budgetOf, cellWidth}
 use Rattle.image.specs.Loading.{Handed, Read, wrong-memory, not-spelled, read, loadedFrom, refusedWith, otherMemory}
-use Rattle.image.specs.Judging.{badFile, valuesIn, judgedOf}
+use Rattle.image.specs.Judging.{badFile, stands, saysJudged, valuesIn, judgedOf}
 use Rattle.image.specs.Laws.Section.{elements-inside}
 use Rattle.image.specs.Laws.Sound.{GoodFile, imageIn, good-file, image-allowed, image-spells}
 use Rattle.image.specs.Laws.Computed.{none-spells}
@@ -31,10 +31,10 @@ module _ (file : List ℕ) (parts : Parts) (good : GoodFile file parts) where
       let in-file : parts .memory .from + 1 * parts .memory .count ≤ length file = elements-inside file Memory 0 (parts .memory) (good .memory-whole) in
       (omega arith, good .memory-whole .fit)
 
-  pub cells-lie : (parts .cells .from + 4 * parts .cells .count ≤ length file) × (parts .cells .count ≤ cellsDepth)
+  pub cells-lie : (parts .cells .from + cellWidth * parts .cells .count ≤ length file) × (parts .cells .count ≤ cellsDepth)
   cells-lie = (elements-inside file Cells (parts .memory .to) (parts .cells) (good .cells-whole), good .cells-whole .fit)
 
-  pub budget-lies : parts .budget .from + 4 * parts .budget .count ≤ length file
+  pub budget-lies : parts .budget .from + cellWidth * parts .budget .count ≤ length file
   budget-lies = elements-inside file Budget (parts .cells .to) (parts .budget) (good .budget-whole)
 
 -- what is placed is the image
@@ -55,7 +55,7 @@ module _ (file : List ℕ) (parts : Parts) where
       (loadedFrom (imageIn file parts))
   unfolding imageIn machineWith loadedFrom freshMachine
   machine-placed fresh cells budget f c b =
-      let p : length (valuesIn file Cells (parts .cells)) ≡ parts .cells .count = length-row-at 4 (parts .cells .count) file (parts .cells .from) in
+      let p : length (valuesIn file Cells (parts .cells)) ≡ parts .cells .count = length-row-at cellWidth (parts .cells .count) file (parts .cells .from) in
       λ t. record {
         says = gives tt;
         machine = record { cells = c t; p = sym p t; links = f t .links; counter = f t .counter; flag = f t .flag };
@@ -63,7 +63,7 @@ module _ (file : List ℕ) (parts : Parts) where
       }
 
 -- the promise of a good file
-pub good-answer : (file before after : List ℕ) (handed : Handed) (parts : Parts) → Bytes file → length before ≡ memoryLength → judgedOf file ≡ judged.Good parts
+pub good-answer : (file before after : List ℕ) (handed : Handed) (parts : Parts) → Bytes file → length before ≡ memoryLength → judgedOf file ≡ stands parts
     → after ≡ padded memoryLength (imageIn file parts .memory) → handed ≡ loadedFrom (imageIn file parts) → Read file before after handed
 good-answer file before after handed parts bytes long h m l =
     let good = good-file file parts h in
@@ -74,7 +74,7 @@ good-answer file before after handed parts bytes long h m l =
 pub memory-refused : (file before : List ℕ) (handed : Handed) → (length before ≡ memoryLength → ⊥) → handed ≡ refusedWith otherMemory → Read file before before handed
 memory-refused file before handed other e = subst (λ (h : Handed). Read file before before h) (sym e) (wrong-memory other)
 
-pub file-refused : (file before : List ℕ) (handed : Handed) (j : Judged) (fault : Fault) → length before ≡ memoryLength → j ≡ judgedOf file
+pub file-refused : (file before : List ℕ) (handed : Handed) (j : Judged) (fault : Fault) → length before ≡ memoryLength → saysJudged j ≡ judgedOf file
     → j ≡ judged.Bad fault → handed ≡ refusedWith badFile → Read file before before handed
 file-refused file before handed j fault long is bad e =
-    subst (λ (h : Handed). Read file before before h) (sym e) (not-spelled long (none-spells file fault (sym is ∙ bad)))
+    subst (λ (h : Handed). Read file before before h) (sym e) (not-spelled long (none-spells file badFile fault (sym is ∙ ap saysJudged bad)))

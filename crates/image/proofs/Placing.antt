@@ -11,7 +11,7 @@ use Rattle.numbers.specs.Bytes.{byteAt, numberAt}
 use Rattle.numbers.specs.Rows.{rowAt}
 use Rattle.numbers.specs.Laws.Rows.{length-row-at}
 use Rattle.plain.specs.Zeros.{padded}
-use Rattle.image.specs.Format.{budgetOf}
+use Rattle.image.specs.Format.{budgetOf, cellWidth}
 
 one-zero-more : (j : ℕ) (ys : List ℕ) → replicate j 0 ++ 0 ∷ ys ≡ replicate (j + 1) 0 ++ ys
 one-zero-more j ys =
@@ -97,7 +97,7 @@ bytes-read file at (suc n) h =
     ∙ ap (take (suc n)) (sym (drop-cons file at 0 (omega arith)))
 
 -- the budget of a file that gives one
-pub first-budget : (file : List ℕ) (at n : ℕ) → (n ≡ 0 → ⊥) → budgetOf (rowAt 4 n file at) ≡ numberAt 4 file at
+pub first-budget : (file : List ℕ) (at n : ℕ) → (n ≡ 0 → ⊥) → budgetOf (rowAt cellWidth n file at) ≡ numberAt cellWidth file at
 unfolding rowAt
 first-budget file at zero some = absurd (some refl)
 first-budget file at (suc n) some = refl

@@ -6,7 +6,7 @@ use Prim.Native.Nat.{ℕ, _+_, _≤_, _<_}
 use native.Mathlib.Omega.{arith}
 use lib.ListN.{length}
 use borrow.Author.Tests.{leb-true, leb-false}
-use Rattle.plain.specs.Answer.{Answer, refuses, gives}
+use Rattle.plain.specs.Answer.{refuses, gives}
 use Rattle.plain.specs.Choice.{pick}
 use Rattle.numbers.specs.Bytes.{numberAt}
 use Rattle.numbers.specs.Slices.{inside, tooShort, saysFound, readAt}

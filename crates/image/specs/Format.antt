@@ -14,15 +14,18 @@ use Rattle.image.specs.declared.Limits.{Limits}
 abbrev pub defaultBudget : ℕ
 defaultBudget = 10000
 
+-- how many bytes a count has, and a cell
+abbrev pub countWidth : ℕ
+countWidth = 4
+
+abbrev pub cellWidth : ℕ
+cellWidth = 4
+
 -- the sections in their order: how many bytes an element has, the fewest elements and the most
 abbrev pub limits : Section → Limits
 limits Memory = record { width = 1; fewest = 1; most = memoryLength }
-limits Cells = record { width = 4; fewest = 0; most = cellsDepth }
-limits Budget = record { width = 4; fewest = 0; most = 1 }
-
--- how many bytes a count has
-abbrev pub countWidth : ℕ
-countWidth = 4
+limits Cells = record { width = cellWidth; fewest = 0; most = cellsDepth }
+limits Budget = record { width = cellWidth; fewest = 0; most = 1 }
 
 -- the most bytes that a section has, and the longest file
 abbrev pub longestSection : Section → ℕ

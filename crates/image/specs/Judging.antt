@@ -27,15 +27,23 @@ use Rattle.image.specs.declared.Judged.the-variants as judged
 abbrev pub badFile : ℕ
 badFile = 14
 
--- what an answer about a section says: 14, or its elements
-abbrev pub saysMet : Met → Answer Part
-saysMet (met.Bad fault) = refuses badFile
-saysMet (met.Whole part) = gives part
+-- what is found: a number, with the clause that fails and its place; or what stands in the file
+pub data Finding (A : Type 0) : Type 0 where
+  fails : ℕ → Fault → Finding A
+  stands : A → Finding A
 
--- what an answer about a whole file says: 14, or the elements of its sections
-abbrev pub saysJudged : Judged → Answer Parts
-saysJudged (judged.Bad fault) = refuses badFile
-saysJudged (judged.Good parts) = gives parts
+abbrev pub answerOf : {A : Type 0} → Finding A → Answer A
+answerOf (fails number fault) = refuses number
+answerOf (stands x) = gives x
+
+-- what an answer says of a section, and of a whole file
+abbrev pub saysMet : Met → Finding Part
+saysMet (met.Bad fault) = fails badFile fault
+saysMet (met.Whole part) = stands part
+
+abbrev pub saysJudged : Judged → Finding Parts
+saysJudged (judged.Bad fault) = fails badFile fault
+saysJudged (judged.Good parts) = stands parts
 
 abbrev pub countAllowed : Section → ℕ → Bool
 countAllowed s n = both (leb (limits s .fewest) n) (leb n (limits s .most))
@@ -45,33 +53,33 @@ abbrev pub partOf : Section → ℕ → ℕ → Part
 partOf s at n = record { from = at + countWidth; count = n; to = at + countWidth + limits s .width * n }
 
 -- n elements that the file has, or is cut before their end
-abbrev pub elementsAt : List ℕ → Section → ℕ → ℕ → Met
-elementsAt file s at n = pick (leb (partOf s at n .to) (length file)) (met.Whole (partOf s at n)) (met.Bad (fault.Cut s at))
+abbrev pub elementsAt : List ℕ → Section → ℕ → ℕ → Finding Part
+elementsAt file s at n = pick (leb (partOf s at n .to) (length file)) (stands (partOf s at n)) (fails badFile (fault.Cut s at))
 
 -- a section that begins at a place: its count has to be there and within the limits, and its elements have to be there
-unfoldable pub partAt : List ℕ → Section → ℕ → Met
+unfoldable pub partAt : List ℕ → Section → ℕ → Finding Part
 partAt file s at =
     pick (inside countWidth file at)
-    (pick (countAllowed s (numberAt countWidth file at)) (elementsAt file s at (numberAt countWidth file at)) (met.Bad (fault.Count s at)))
-    (met.Bad (fault.Cut s at))
+    (pick (countAllowed s (numberAt countWidth file at)) (elementsAt file s at (numberAt countWidth file at)) (fails badFile (fault.Count s at)))
+    (fails badFile (fault.Cut s at))
 
 -- the values that a section holds
 abbrev pub valuesIn : List ℕ → Section → Part → List ℕ
 valuesIn file s part = rowAt (limits s .width) (part .count) file (part .from)
 
 -- after the last section: the budget has to be within its limit, and the file has to end
-unfoldable pub endJudged : List ℕ → Parts → Judged
+unfoldable pub endJudged : List ℕ → Parts → Finding Parts
 endJudged file parts =
-    pick (ltb mostBudget (budgetOf (valuesIn file section.Budget (parts .budget)))) (judged.Bad (fault.Budget (parts .budget .from)))
-    (pick (ltb (parts .budget .to) (length file)) (judged.Bad (fault.Surplus (parts .budget .to))) (judged.Good parts))
+    pick (ltb mostBudget (budgetOf (valuesIn file section.Budget (parts .budget)))) (fails badFile (fault.Budget (parts .budget .from)))
+    (pick (ltb (parts .budget .to) (length file)) (fails badFile (fault.Surplus (parts .budget .to))) (stands parts))
 
 -- goes on after a whole section
-abbrev pub after : Met → (Part → Judged) → Judged
-after (met.Bad fault) next = judged.Bad fault
-after (met.Whole part) next = next part
+abbrev pub after : {A B : Type 0} → Finding A → (A → Finding B) → Finding B
+after (fails number fault) next = fails number fault
+after (stands x) next = next x
 
 -- section after section, each where the one before it ends
-unfoldable pub judgedOf : List ℕ → Judged
+unfoldable pub judgedOf : List ℕ → Finding Parts
 judgedOf file =
     after (partAt file section.Memory 0) λ memory.
     after (partAt file section.Cells (memory .to)) λ cells.
@@ -98,5 +106,5 @@ pub data Says (file : List ℕ) : Answer Parts → Type 0 where
 
 -- `Judges file judged`: the answer, and for a bad file the first clause that fails and its place
 pub record Judges (file : List ℕ) (judged : Judged) : Type 0 where
-  pub answer : Says file (saysJudged judged)
-  pub clause : judged ≡ judgedOf file
+  pub answer : Says file (answerOf (saysJudged judged))
+  pub clause : saysJudged judged ≡ judgedOf file

@@ -7,11 +7,11 @@ use crate::Section;
 use crate::sections;
 use machine::Machine;
 ghost use mathlib.Core.Path.{_≡_};
-ghost use Rattle.image.specs.Judging.{judgedOf, Judges};
+ghost use Rattle.image.specs.Judging.{saysJudged, judgedOf, Judges};
 
 // Section after section, each where the one before it ends; then the budget's limit and the end of the file.
 fn from_the_front(file: &[u8]) -> Judged
-    ensures { λ r. ⌜ r ≡ judgedOf (now (file .entry)) ⌝ }
+    ensures { λ r. ⌜ saysJudged r ≡ judgedOf (now (file .entry)) ⌝ }
 {
     let memory = match sections::part_at(file, Section::Memory, 0) {
         Met::Bad(fault) => return Judged::Bad(fault),

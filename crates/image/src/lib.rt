@@ -6,6 +6,7 @@ mod sections;
 pub use judging::judge;
 use machine::Machine;
 pub use sections::LONGEST_FILE;
+pub use sections::limits_of;
 pub use sections::longest_file;
 ghost use mathlib.Core.Path.{_≡_};
 ghost use Rattle.image.specs.Loading.{Read, refusedWith, handed};

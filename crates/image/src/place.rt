@@ -12,6 +12,7 @@ ghost use lib.ListN.{length};
 ghost use Rattle.plain.specs.Zeros.{padded};
 ghost use Rattle.machine.specs.Limits.{memoryLength};
 ghost use Rattle.links.specs.Depths.{cellsDepth};
+ghost use Rattle.image.specs.Format.{cellWidth};
 ghost use Rattle.image.specs.Loading.{handed, loadedFrom};
 ghost use Rattle.image.specs.Judging.{valuesIn};
 ghost use Rattle.image.specs.Laws.Sound.{GoodFile, imageIn};
@@ -36,7 +37,7 @@ fn memory_bytes(file: &[u8], part: Part, memory: &mut [u8])
 
 // The cells, and zeros above them.
 fn cells(file: &[u8], part: Part) -> [u32; Machine::CELLS]
-    requires { ⌜ (part .from + 4 * part .count ≤ length (now file)) × (part .count ≤ cellsDepth) ⌝ }
+    requires { ⌜ (part .from + cellWidth * part .count ≤ length (now file)) × (part .count ≤ cellsDepth) ⌝ }
     ensures { λ r. ⌜ r ≡ padded cellsDepth (valuesIn (now (file .entry)) Section.Cells part) ⌝ }
 {
     let from = part.from;
@@ -44,7 +45,7 @@ fn cells(file: &[u8], part: Part) -> [u32; Machine::CELLS]
     let mut cells = [0u32; Machine::CELLS];
     let mut i = 0;
     while i < count {
-        cells[i] = sections::cell_at(file, from + 4 * i);
+        cells[i] = sections::cell_at(file, from + sections::CELL * i);
         i += 1;
     }
     cells

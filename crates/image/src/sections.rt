@@ -10,22 +10,24 @@ ghost use mathlib.Core.Path.{_≡_};
 ghost use Prim.Native.Nat.{_+_, _*_, _≤_};
 ghost use lib.ListN.{length};
 ghost use Rattle.numbers.specs.Bytes.{numberAt};
-ghost use Rattle.image.specs.Format.{limits, budgetOf, longestFile};
-ghost use Rattle.image.specs.Judging.{partAt, valuesIn};
+ghost use Rattle.image.specs.Format.{limits, cellWidth, budgetOf, longestFile};
+ghost use Rattle.image.specs.Judging.{partAt, saysMet, valuesIn};
 
 // The budget of a file that gives none.
 const DEFAULT_BUDGET: u32 = 10000;
 
-// A count or a cell has 4 bytes.
-const NUMBER: usize = 4;
+// How many bytes a count has, and a cell.
+const COUNT: usize = 4;
+
+pub(crate) const CELL: usize = 4;
 
 // The most bytes that a good file has: each section's count and its most elements. A buffer of one byte more holds no file cut to a good one.
-pub const LONGEST_FILE: usize = NUMBER
+pub const LONGEST_FILE: usize = COUNT
     + Machine::MEMORY
-    + NUMBER
-    + NUMBER * Machine::CELLS
-    + NUMBER
-    + NUMBER;
+    + COUNT
+    + CELL * Machine::CELLS
+    + COUNT
+    + CELL;
 
 // The same as a number that is held to its definition: an array's length can be no call.
 pub fn longest_file() -> usize
@@ -34,8 +36,8 @@ pub fn longest_file() -> usize
     LONGEST_FILE
 }
 
-// One line a section.
-pub(crate) fn limits_of(section: Section) -> Limits
+// What each section may hold.
+pub fn limits_of(section: Section) -> Limits
     ensures { λ r. ⌜ r ≡ limits section ⌝ }
 {
     match section {
@@ -45,12 +47,12 @@ pub(crate) fn limits_of(section: Section) -> Limits
             most: Machine::MEMORY,
         },
         Section::Cells => Limits {
-            width: NUMBER,
+            width: CELL,
             fewest: 0,
             most: Machine::CELLS,
         },
         Section::Budget => Limits {
-            width: NUMBER,
+            width: CELL,
             fewest: 0,
             most: 1,
         },
@@ -59,7 +61,7 @@ pub(crate) fn limits_of(section: Section) -> Limits
 
 // A count is tested before a product is formed with it, so that none can wrap.
 pub(crate) fn part_at(file: &[u8], section: Section, at: usize) -> Met
-    ensures { λ r. ⌜ r ≡ partAt (now (file .entry)) section at ⌝ }
+    ensures { λ r. ⌜ saysMet r ≡ partAt (now (file .entry)) section at ⌝ }
 {
     let Found::Number(number) = numbers::read_four(file, at) else {
         return Met::Bad(Fault::Cut(section, at));
@@ -72,7 +74,7 @@ pub(crate) fn part_at(file: &[u8], section: Section, at: usize) -> Met
     if limits.most < count {
         return Met::Bad(Fault::Count(section, at));
     }
-    let from = at + NUMBER;
+    let from = at + COUNT;
     let to = from + limits.width * count;
     if file.len() < to {
         return Met::Bad(Fault::Cut(section, at));
@@ -82,8 +84,8 @@ pub(crate) fn part_at(file: &[u8], section: Section, at: usize) -> Met
 
 // The number at a place that is known to lie inside.
 pub(crate) fn cell_at(file: &[u8], at: usize) -> u32
-    requires { ⌜ at + 4 ≤ length (now file) ⌝ }
-    ensures { λ r. ⌜ r ≡ numberAt 4 (now (file .entry)) at ⌝ }
+    requires { ⌜ at + cellWidth ≤ length (now file) ⌝ }
+    ensures { λ r. ⌜ r ≡ numberAt cellWidth (now (file .entry)) at ⌝ }
 {
     let Found::Number(cell) = numbers::read_four(file, at) else {
         return 0;
@@ -93,7 +95,7 @@ pub(crate) fn cell_at(file: &[u8], at: usize) -> u32
 
 // The budget that a file comes to.
 pub(crate) fn budget_in(file: &[u8], part: Part) -> u32
-    requires { ⌜ part .from + 4 * part .count ≤ length (now file) ⌝ }
+    requires { ⌜ part .from + cellWidth * part .count ≤ length (now file) ⌝ }
     ensures { λ r. ⌜ r ≡ budgetOf (valuesIn (now (file .entry)) Section.Budget part) ⌝ }
 {
     if part.count == 0 {

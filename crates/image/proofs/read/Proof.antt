@@ -1,8 +1,9 @@
 -- The file is judged first: a bad one spells no image, a good one spells the image that is then placed.
-use mathlib.Core.Path.{_≡_, sym, _∙_}
+use mathlib.Core.Path.{_≡_, sym, ap, _∙_}
 use native.Mathlib.Omega.{arith}
 use lib.ListN.{length}
 use Rattle.machine.specs.Limits.{memoryLength}
+use Rattle.image.specs.Judging.{saysJudged}
 use Rattle.image.specs.Laws.Sound.{good-file}
 use Rattle.image.proofs.Answers.{good-answer, memory-refused, file-refused}
 use borrow.Author.Needs.{needs}
@@ -40,7 +41,7 @@ image-requires : tie.Need-image-requires
 image-requires c κs =
     let start = c .before .before .before .before .before .before .before .before in
     let long : length (start .args .memory .now) ≡ memoryLength = omega arith in
-    (good-file (start .args .file .now) _ (sym (c .before .before .before .before .judge .ensures .clause) ∙ c .before .before .parts .given .1), long)
+    (good-file (start .args .file .now) _ (sym (c .before .before .before .before .judge .ensures .clause) ∙ ap saysJudged (c .before .before .parts .given .1)), long)
 
 same-length : tie.Need-same-length
 same-length c = search needs
@@ -50,7 +51,7 @@ returns-3 c =
     let start = c .before .before .before .before .before .before .before .before .before .before .before in
     let long : length (start .args .memory .now) ≡ memoryLength = omega arith in
     let known = c .before .before .before .before .before .before .before .before .before .before .shared-slice-known in
-    good-answer (start .args .file .now) (start .args .memory .now) _ _ _ (λ i. known .given i .fits) long (sym (c .before .before .before .before .before .before .before .judge .ensures .clause) ∙ c .before .before .before .before .before .parts .given .1)
+    good-answer (start .args .file .now) (start .args .memory .now) _ _ _ (λ i. known .given i .fits) long (sym (c .before .before .before .before .before .before .before .judge .ensures .clause) ∙ ap saysJudged (c .before .before .before .before .before .parts .given .1))
     (c .before .before .image .ensures .0) (c .before .before .image .ensures .1)
 
 pub read-spec : {M : Type 1} → statement M

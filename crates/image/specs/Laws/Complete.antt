@@ -7,12 +7,10 @@ use lib.ListN.{length, length-append}
 use borrow.Author.Tests.{le-ltb}
 use Rattle.machine.specs.Limits.{mostBudget}
 use Rattle.image.specs.Format.{Image, Allowed, countWidth, sectionOf, budgetOf, spelled, longestFile}
-use Rattle.image.specs.Judging.{partAt, valuesIn, endJudged, judgedOf, memoryPart, cellsPart, budgetPart, partsOf}
+use Rattle.image.specs.Judging.{stands, partAt, valuesIn, endJudged, judgedOf, memoryPart, cellsPart, budgetPart, partsOf}
 use Rattle.image.specs.Laws.Section.{length-section, section-judged, section-read}
 use Rattle.image.specs.Laws.Sound.{imageIn}
 use Rattle.image.specs.declared.Section.the-variants.{Memory, Cells, Budget}
-use Rattle.image.specs.declared.Met.the-variants as met
-use Rattle.image.specs.declared.Judged.the-variants as judged
 
 module _ (i : Image) (ok : Allowed i) where
   abbrev first : List ℕ
@@ -50,15 +48,15 @@ module _ (i : Image) (ok : Allowed i) where
   pub no-longer : length (spelled i) ≤ longestFile
   no-longer = omega (arith, whole-length, ok .memory-within .fit, ok .cells-within .fit, ok .budget-within .fit)
 
-  memory-judged : partAt (spelled i) Memory 0 ≡ met.Whole (memoryPart i)
+  memory-judged : partAt (spelled i) Memory 0 ≡ stands (memoryPart i)
   unfolding spelled
   memory-judged = section-judged Memory [] (second ++ third) (i .memory) 0 refl (ok .memory-within)
 
-  cells-judged : partAt (spelled i) Cells (memoryPart i .to) ≡ met.Whole (cellsPart i)
+  cells-judged : partAt (spelled i) Cells (memoryPart i .to) ≡ stands (cellsPart i)
   unfolding spelled
   cells-judged = section-judged Cells first third (i .cells) (memoryPart i .to) long-first (ok .cells-within)
 
-  budget-judged : partAt (spelled i) Budget (cellsPart i .to) ≡ met.Whole (budgetPart i)
+  budget-judged : partAt (spelled i) Budget (cellsPart i .to) ≡ stands (budgetPart i)
   budget-judged =
       ap (λ (l : List ℕ). partAt l Budget (cellsPart i .to)) regrouped
       ∙ section-judged Budget (first ++ second) [] (i .budget) (cellsPart i .to) long-both (ok .budget-within)
@@ -77,13 +75,13 @@ module _ (i : Image) (ok : Allowed i) where
       let b = budget-read in
       λ t. record { memory = m t; cells = c t; budget = b t }
 
-  end-judged : endJudged (spelled i) (partsOf i) ≡ judged.Good (partsOf i)
+  end-judged : endJudged (spelled i) (partsOf i) ≡ stands (partsOf i)
   unfolding endJudged
   end-judged =
       let end : length (spelled i) ≡ budgetPart i .to = whole-length in
       simp (budget-read, le-ltb mostBudget (budgetOf (i .budget)) (ok .budget-low), le-ltb (budgetPart i .to) (length (spelled i)) (omega arith))
 
   -- and its file is good
-  pub accepted : judgedOf (spelled i) ≡ judged.Good (partsOf i)
+  pub accepted : judgedOf (spelled i) ≡ stands (partsOf i)
   unfolding judgedOf
   accepted = simp (memory-judged, cells-judged, budget-judged) end-judged

@@ -1,8 +1,9 @@
--- Document 01's sample file, byte by byte, is the file of the image that it describes.
+-- Document 01's sample file, byte by byte, is the file of the image that it describes; and what a file without a budget comes to.
 use mathlib.Core.List.{[], _∷_}
-use mathlib.Core.Path.{_≡_, refl}
+use mathlib.Core.Path.{_≡_, refl, ap}
 use Rattle.numbers.specs.Rows.{rowOf}
-use Rattle.image.specs.Format.{Image, sectionOf, spelled}
+use Rattle.image.specs.Format.{Image, sectionOf, budgetOf, spelled}
+use Rattle.image.specs.Loading.{loadedFrom}
 
 abbrev pub sampleImage : Image
 sampleImage = record { memory = 0x34 ∷ 0x05 ∷ 0x34 ∷ 0x07 ∷ 0x0E ∷ 0x3D ∷ []; cells = []; budget = 1000 ∷ [] }
@@ -12,3 +13,7 @@ pub sample-file : spelled sampleImage ≡
     0x00 ∷ 0x00 ∷ 0x00 ∷ 0x00 ∷ 0x00 ∷ 0x00 ∷ 0x00 ∷ 0x01 ∷ 0x00 ∷ 0x00 ∷ 0x03 ∷ 0xE8 ∷ []
 unfolding rowOf sectionOf spelled
 sample-file = refl
+
+pub default-budget : (i : Image) → i .budget ≡ [] → loadedFrom i .budget ≡ 10000
+unfolding loadedFrom
+default-budget i none = ap budgetOf none

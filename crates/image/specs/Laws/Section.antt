@@ -16,12 +16,10 @@ use Rattle.numbers.specs.Rows.{rowAt, rowOf}
 use Rattle.numbers.specs.Laws.Bytes.{Bytes, length-bytes, number-fits, spelled-number}
 use Rattle.numbers.specs.Laws.Rows.{length-row, length-row-at, row-read, spelled-row}
 use Rattle.image.specs.Format.{limits, countWidth, sectionOf, Within}
-use Rattle.image.specs.Judging.{countAllowed, partOf, valuesIn, partAt}
+use Rattle.image.specs.Judging.{Finding, stands, countAllowed, partOf, valuesIn, partAt}
 use Rattle.image.specs.declared.Section.{Section}
 use Rattle.image.specs.declared.Section.the-variants.{Memory, Cells, Budget}
 use Rattle.image.specs.declared.Part.{Part}
-use Rattle.image.specs.declared.Met.{Met}
-use Rattle.image.specs.declared.Met.the-variants as met
 
 -- what a section's limits leave room for
 pub count-small : (s : Section) → limits s .most < 2 ^ 32
@@ -58,7 +56,7 @@ module _ (s : Section) (p q values : List ℕ) (at : ℕ) (long : length p ≡ a
       let c : length (sectionOf s values ++ q) ≡ length (sectionOf s values) + length q = length-append (sectionOf s values) q in
       omega arith
 
-  pub section-judged : partAt whole s at ≡ met.Whole (partOf s at (length values))
+  pub section-judged : partAt whole s at ≡ stands (partOf s at (length values))
   unfolding partAt
   section-judged =
       let to-end : partOf s at (length values) .to ≤ length whole = room in
@@ -103,7 +101,7 @@ elements-inside file s at part h =
     omega arith
 
 -- a test that a whole section has passed
-passed : (t : Bool) (x y : Met) (part : Part) → (y ≡ met.Whole part → ⊥) → pick t x y ≡ met.Whole part → (t ≡ true) × (x ≡ met.Whole part)
+passed : (t : Bool) (x y : Finding Part) (part : Part) → (y ≡ stands part → ⊥) → pick t x y ≡ stands part → (t ≡ true) × (x ≡ stands part)
 passed true x y part other e = (refl, e)
 passed false x y part other e = absurd (other e)
 
@@ -111,7 +109,7 @@ module _ (file : List ℕ) (s : Section) (at : ℕ) where
   abbrev number : ℕ
   number = numberAt countWidth file at
 
-  pub whole-at : (part : Part) → partAt file s at ≡ met.Whole part → WholeAt file s at part
+  pub whole-at : (part : Part) → partAt file s at ≡ stands part → WholeAt file s at part
   unfolding partAt
   whole-at part h =
       let one = passed (inside countWidth file at) _ _ part (λ e. let z : _≡_ {A = ℕ} 0 1 = cc in omega arith) h in

@@ -12,16 +12,12 @@ use Rattle.numbers.specs.Laws.Bytes.{Bytes}
 use Rattle.numbers.specs.Laws.Rows.{length-row-at, row-below}
 use Rattle.machine.specs.Limits.{mostBudget}
 use Rattle.image.specs.Format.{Image, Allowed, Within, limits, sectionOf, budgetOf, spelled}
-use Rattle.image.specs.Judging.{partAt, valuesIn, endJudged, after, judgedOf}
+use Rattle.image.specs.Judging.{Finding, fails, stands, partAt, valuesIn, endJudged, after, judgedOf}
 use Rattle.image.specs.Laws.Section.{WholeAt, whole-at, section-spelled}
 use Rattle.image.specs.declared.Section.{Section}
 use Rattle.image.specs.declared.Section.the-variants.{Memory, Cells, Budget}
 use Rattle.image.specs.declared.Part.{Part}
 use Rattle.image.specs.declared.Parts.{Parts}
-use Rattle.image.specs.declared.Met.{Met}
-use Rattle.image.specs.declared.Met.the-variants as met
-use Rattle.image.specs.declared.Judged.{Judged}
-use Rattle.image.specs.declared.Judged.the-variants as judged
 
 -- the image that stands in the parts of a file
 unfoldable pub imageIn : List ℕ → Parts → Image
@@ -37,37 +33,37 @@ pub record GoodFile (file : List ℕ) (parts : Parts) : Type 0 where
   pub ends : length file ≤ parts .budget .to
 
 -- the part after which a good answer went on
-went-on : (m : Met) (next : Part → Judged) (parts : Parts) → after m next ≡ judged.Good parts → (part : Part) × (m ≡ met.Whole part) × (next part ≡ judged.Good parts)
-went-on (met.Bad fault) next parts e = absurd (let z : _≡_ {A = ℕ} 0 1 = cc in omega arith)
-went-on (met.Whole part) next parts e = (part, refl, e)
+went-on : (m : Finding Part) (next : Part → Finding Parts) (parts : Parts) → after m next ≡ stands parts → (part : Part) × (m ≡ stands part) × (next part ≡ stands parts)
+went-on (fails number fault) next parts e = absurd (let z : _≡_ {A = ℕ} 0 1 = cc in omega arith)
+went-on (stands part) next parts e = (part, refl, e)
 
 -- a test that a good answer has passed
-passed : (t : Bool) (x y : Judged) (parts : Parts) → (x ≡ judged.Good parts → ⊥) → pick t x y ≡ judged.Good parts → (t ≡ false) × (y ≡ judged.Good parts)
+passed : (t : Bool) (x y : Finding Parts) (parts : Parts) → (x ≡ stands parts → ⊥) → pick t x y ≡ stands parts → (t ≡ false) × (y ≡ stands parts)
 passed true x y parts other e = absurd (other e)
 passed false x y parts other e = (refl, e)
 
 module _ (file : List ℕ) where
-  abbrev partsOf : Part → Part → Part → Parts
-  partsOf memory cells budget = record { memory = memory; cells = cells; budget = budget }
+  abbrev pub partsFrom : Part → Part → Part → Parts
+  partsFrom memory cells budget = record { memory = memory; cells = cells; budget = budget }
 
-  abbrev afterCells : Part → Part → Judged
-  afterCells memory cells = after (partAt file Budget (cells .to)) λ budget. endJudged file (partsOf memory cells budget)
+  abbrev pub afterCells : Part → Part → Finding Parts
+  afterCells memory cells = after (partAt file Budget (cells .to)) λ budget. endJudged file (partsFrom memory cells budget)
 
-  abbrev afterMemory : Part → Judged
+  abbrev pub afterMemory : Part → Finding Parts
   afterMemory memory = after (partAt file Cells (memory .to)) (afterCells memory)
 
-  pub good-file : (parts : Parts) → judgedOf file ≡ judged.Good parts → GoodFile file parts
+  pub good-file : (parts : Parts) → judgedOf file ≡ stands parts → GoodFile file parts
   unfolding judgedOf endJudged
   good-file parts h =
       let one = went-on (partAt file Memory 0) afterMemory parts h in
       let memory = one .0 in
       let two = went-on (partAt file Cells (memory .to)) (afterCells memory) parts (one .2) in
       let cells = two .0 in
-      let three = went-on (partAt file Budget (cells .to)) (λ (x : Part). endJudged file (partsOf memory cells x)) parts (two .2) in
+      let three = went-on (partAt file Budget (cells .to)) (λ (x : Part). endJudged file (partsFrom memory cells x)) parts (two .2) in
       let budget = three .0 in
       let four = passed (ltb mostBudget (budgetOf (valuesIn file Budget budget))) _ _ parts (λ e. let z : _≡_ {A = ℕ} 0 1 = cc in omega arith) (three .2) in
       let five = passed (ltb (budget .to) (length file)) _ _ parts (λ e. let z : _≡_ {A = ℕ} 0 1 = cc in omega arith) (four .1) in
-      let same : partsOf memory cells budget ≡ parts = cc (five .1) in
+      let same : partsFrom memory cells budget ≡ parts = cc (five .1) in
       subst (GoodFile file) same
       (record {
         memory-whole = whole-at file Memory 0 memory (one .1);

@@ -2,7 +2,7 @@
 use mathlib.Core.Path.{sym, ap, _∙_}
 use Prim.Native.Nat.{ℕ}
 use Rattle.numbers.specs.Rows.{rowAt}
-use Rattle.image.specs.Format.{budgetOf}
+use Rattle.image.specs.Format.{budgetOf, cellWidth}
 use Rattle.image.proofs.Placing.{first-budget}
 use borrow.Author.Needs.{needs}
 use Rattle.image.proofs.sections.budget_in.Statement.{statement}
@@ -10,7 +10,7 @@ use Rattle.image.proofs.sections.budget_in.Tie as tie
 
 returns : tie.Need-returns
 unfolding rowAt
-returns c = sym (ap (λ (n : ℕ). budgetOf (rowAt 4 n (c .before .before .before .args .file .now) (c .before .before .before .args .part .from))) (c .if1 .taken))
+returns c = sym (ap (λ (n : ℕ). budgetOf (rowAt cellWidth n (c .before .before .before .args .file .now) (c .before .before .before .args .part .from))) (c .if1 .taken))
 
 cell-at-requires : tie.Need-cell-at-requires
 cell-at-requires c κs = search needs

@@ -1,5 +1,6 @@
 -- Each way out is a law of how the judgement of a section ends.
 use native.Mathlib.Omega.{arith}
+use Rattle.image.specs.Format.{countWidth}
 use Rattle.image.proofs.Reading.{was-inside}
 use Rattle.image.proofs.Stops.{cut-count, too-few, too-many, cut-elements, whole, small-product}
 use borrow.Author.Needs.{needs}
@@ -34,7 +35,7 @@ returns-3 c =
     (c .before .before .if1 .left) (c .if2 .taken)
 
 add-from : tie.Need-add-from
-add-from c = omega (arith, was-inside 4 _ _ _ (c .before .before .before .before .before .before .before .before .read-four .ensures) _ (c .before .before .before .before .before .before .number .given .1) .0)
+add-from c = omega (arith, was-inside countWidth _ _ _ (c .before .before .before .before .before .before .before .before .read-four .ensures) _ (c .before .before .before .before .before .before .number .given .1) .0)
 
 mul-to : tie.Need-mul-to
 mul-to c =
@@ -44,7 +45,7 @@ mul-to c =
 add-to : tie.Need-add-to
 add-to c =
     let small = small-product (c .before .before .before .before .before .before .before .before .before .before .before .args .section) _ _ (c .before .before .before .before .before .limits-of .ensures) (c .before .if2 .left) in
-    let there = was-inside 4 _ _ _ (c .before .before .before .before .before .before .before .before .before .read-four .ensures) _ (c .before .before .before .before .before .before .before .number .given .1) .0 in
+    let there = was-inside countWidth _ _ _ (c .before .before .before .before .before .before .before .before .before .read-four .ensures) _ (c .before .before .before .before .before .before .before .number .given .1) .0 in
     omega arith
 
 returns-4 : tie.Need-returns-4
