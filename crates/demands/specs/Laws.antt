@@ -1,5 +1,5 @@
--- what a run accepts, and what any history keeps of it
-pub mod Accepted
+-- what any history keeps of a state that a run accepts
+pub mod Histories
 -- every run is a history of completed instructions
 pub mod Course
 -- what is counted over one history after another

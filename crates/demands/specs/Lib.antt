@@ -20,5 +20,7 @@ pub mod Flag
 pub mod Cases
 -- an image for demand 3 over two runs
 pub mod Worked
+-- what the reader of images leaves
+pub mod Images
 pub mod Laws
 pub mod Theorems

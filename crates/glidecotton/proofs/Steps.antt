@@ -1,37 +1,35 @@
 -- A bench's promise from what its parts ensure: the three ways it can end.
 use mathlib.Core.List.{List}
-use mathlib.Core.Path.{_≡_, refl, sym, ap, _∙_}
+use mathlib.Core.Path.{_≡_, sym, ap, _∙_}
 use Prim.Native.Nat.{ℕ}
 use borrow.Author.Tests.{eq-eqb, ne-eqb}
+use Rattle.plain.specs.Answer.{Answer, refuses, gives}
 use Rattle.machine.specs.Run.{After, runOf}
-use Rattle.machine.specs.declared.Ran.{Ran}
-use Rattle.image.specs.Loading.{Read}
-use Rattle.image.specs.Laws.Only.{Answer}
+use Rattle.image.specs.Loading.{Reading, Read, saysVerdict, handed, otherMemory}
 use Rattle.image.specs.declared.Loaded.{Loaded}
 use Rattle.image.specs.declared.Verdict.{Verdict}
 use Rattle.image.specs.declared.Verdict.the-variants.{Good, Refused}
 use Rattle.report.specs.Printing.{Reported, reportOf, refusalOf}
-use Rattle.report.specs.declared.Printed.{Printed}
 use Rattle.report.specs.declared.Printed.the-variants as printed
 use Rattle.glidecotton.specs.Bench.{Benched, Benches, benchOf, afterRead, afterRun, with}
 
-module _ (image memory out mid : List ℕ) (loaded : Loaded) (is-read : Read image memory mid loaded) where
-  abbrev read : Answer
-  read = record { memory = mid; loaded = loaded }
+module _ (image memory out mid : List ℕ) (loaded : Loaded) (is-read : Read image memory mid (handed loaded)) where
+  abbrev read : Reading
+  read = record { memory = mid; handed = handed loaded }
 
-  by-verdict : (v : Verdict) → loaded .verdict ≡ v → (done : Benched) → done ≡ afterRead v read out → Benches image memory out done
+  by-verdict : (v : Verdict) → loaded .verdict ≡ v → (done : Benched) → done ≡ afterRead (saysVerdict v) read out → Benches image memory out done
   unfolding benchOf
   by-verdict v e done h =
-      record { answer = read; is-read = is-read; comes-to = h ∙ ap (λ (w : Verdict). afterRead w read out) (sym e) }
+      record { reading = read; is-read = is-read; comes-to = h ∙ ap (λ (w : Verdict). afterRead (saysVerdict w) read out) (sym e) }
 
-  pub no-text : (number : ℕ) → loaded .verdict ≡ Refused number → number ≡ 2
-      → Benches image memory out (record { printed = printed.Refused 2; memory = mid; out = out })
-  no-text number e two = by-verdict (Refused number) e _ (simp (eq-eqb number 2 two))
+  pub no-text : (number : ℕ) → loaded .verdict ≡ Refused number → number ≡ otherMemory
+      → Benches image memory out (record { printed = printed.Refused number; memory = mid; out = out })
+  no-text number e two = by-verdict (Refused number) e _ (simp (eq-eqb number otherMemory two) (ap (λ (n : ℕ). record { printed = printed.Refused n; memory = mid; out = out }) two))
 
-  pub refusal-text : (number : ℕ) (reported : Reported) → loaded .verdict ≡ Refused number → (number ≡ 2 → ⊥) → reported ≡ refusalOf number out
+  pub refusal-text : (number : ℕ) (reported : Reported) → loaded .verdict ≡ Refused number → (number ≡ otherMemory → ⊥) → reported ≡ refusalOf number out
       → Benches image memory out (with mid reported)
   refusal-text number reported e other h =
-      by-verdict (Refused number) e _ (ap (with mid) h ∙ simp (ne-eqb number 2 other))
+      by-verdict (Refused number) e _ (ap (with mid) h ∙ simp (ne-eqb number otherMemory other))
 
   pub run-text : (after : After) (reported : Reported) → loaded .verdict ≡ Good → after ≡ runOf mid (loaded .machine) (loaded .budget)
       → reported ≡ reportOf (after .ran) out → Benches image memory out (with (after .memory) reported)

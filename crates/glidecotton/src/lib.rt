@@ -11,8 +11,8 @@ pub fn bench(image: &[u8], memory: &mut [u8], out: &mut [u8]) -> Printed
     let loaded = image::read(image, memory);
     let verdict = loaded.verdict;
     if let image::Verdict::Refused(number) = verdict {
-        if number == 2 {
-            return Printed::Refused(2);
+        if number == image::OTHER_MEMORY {
+            return Printed::Refused(number);
         }
         return report::refusal(number, out);
     }

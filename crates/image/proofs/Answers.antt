@@ -1,39 +1,80 @@
 -- The reader's promise from what its parts ensure.
 use mathlib.Core.List.{List}
-use mathlib.Core.Path.{_≡_, sym, ap, subst₂, _∙_}
+use mathlib.Core.Path.{_≡_, sym, ap, subst, subst₂, _∙_}
 use Prim.Native.Nat.{ℕ, _+_, _*_, _≤_}
-use lib.ListN.{length, take, drop}
-use Rattle.links.specs.Fresh.{freshLinks}
-use Rattle.links.specs.declared.Links.{Links}
-use Rattle.image.specs.Format.{mostMemory}
-use Rattle.image.specs.Loading.{Read, read, padded, machineWith, loadedFrom}
-use Rattle.image.specs.Judging.{cellsAt, judgedOf, imageIn}
-use Rattle.image.specs.Laws.Numbers.{Bytes, length-cells}
-use Rattle.image.specs.Laws.Sound.{good-file, budget-good, image-allowed, image-spells}
+use native.Mathlib.Omega.{arith}
+use lib.ListN.{length}
+use Rattle.plain.specs.Answer.{gives}
+use Rattle.numbers.specs.Laws.Bytes.{Bytes}
+use Rattle.numbers.specs.Laws.Rows.{length-row-at}
+use Rattle.machine.specs.declared.Machine.{Machine}
+use Rattle.machine.specs.State.{freshMachine, machineWith}
+use Rattle.machine.specs.Limits.{memoryLength}
+use Rattle.links.specs.Depths.{cellsDepth}
+use Rattle.plain.specs.Zeros.{padded}
+use Rattle.image.specs.Format.{budgetOf, limits}
+use Rattle.image.specs.Loading.{Handed, Read, wrong-memory, not-spelled, read, loadedFrom, refusedWith, otherMemory}
+use Rattle.image.specs.Judging.{badFile, valuesIn, judgedOf}
+use Rattle.image.specs.Laws.Section.{elements-inside}
+use Rattle.image.specs.Laws.Sound.{GoodFile, imageIn, good-file, image-allowed, image-spells}
+use Rattle.image.specs.Laws.Computed.{none-spells}
+use Rattle.image.specs.declared.Fault.{Fault}
+use Rattle.image.specs.declared.Judged.{Judged}
+use Rattle.image.specs.declared.Section.the-variants.{Memory, Cells, Budget}
+use Rattle.image.specs.declared.Parts.{Parts}
 use Rattle.image.specs.declared.Judged.the-variants as judged
-use Rattle.image.specs.declared.Loaded.{Loaded}
-use Rattle.image.specs.declared.Verdict.the-variants as verdict
 
 -- where the sections of a good file lie
-pub inside : (file : List ℕ) (n k b : ℕ) → judgedOf file ≡ judged.Good n k b → (n + 4 * k + 8 + 4 ≤ length file) × (n ≤ 32768) × (k ≤ 64)
-inside file n k b h = let g = good-file file n k b h in (g .inside, g .bytes-fit, g .cells-fit)
+module _ (file : List ℕ) (parts : Parts) (good : GoodFile file parts) where
+  pub memory-lies : (parts .memory .from + parts .memory .count ≤ length file) × (parts .memory .count ≤ memoryLength)
+  memory-lies =
+      let in-file : parts .memory .from + 1 * parts .memory .count ≤ length file = elements-inside file Memory 0 (parts .memory) (good .memory-whole) in
+      (omega arith, good .memory-whole .fit)
 
-pub good-answer : (file before after cells : List ℕ) (links : Links) (n k b : ℕ) → Bytes file → length before ≡ 32768 → judgedOf file ≡ judged.Good n k b
-    → after ≡ padded (length before) (take n (drop 4 file)) → cells ≡ padded 64 (cellsAt file (n + 8) k) → links ≡ freshLinks
-    → Read file before after
-    (record {
-      verdict = verdict.Good;
-      machine = record { cells = cells; p = k; links = links; counter = 0; flag = 0 };
-      budget = b;
-    })
-unfolding imageIn machineWith loadedFrom
-good-answer file before after cells links n k b bytes long h e f g =
-    let good = good-file file n k b h in
-    let i = imageIn file n k in
-    let a : padded mostMemory (take n (drop 4 file)) ≡ after = ap (λ (size : ℕ). padded size (take n (drop 4 file))) (sym long) ∙ sym e in
-    let p : length (cellsAt file (n + 8) k) ≡ k = length-cells file (n + 8) k in
-    let budget = budget-good file bytes n k b good .comes-to in
-    let l : loadedFrom i ≡ record { verdict = verdict.Good; machine = record { cells = cells; p = k; links = links; counter = 0; flag = 0 }; budget = b } =
-    λ t. record { verdict = verdict.Good; machine = record { cells = sym f t; p = p t; links = sym g t; counter = 0; flag = 0 }; budget = budget t } in
-    subst₂ (λ (x : List ℕ) (y : Loaded). Read file before x y) a l
-    (read i long (image-allowed file bytes n k b good) (image-spells file bytes n k b good))
+  pub cells-lie : (parts .cells .from + 4 * parts .cells .count ≤ length file) × (parts .cells .count ≤ cellsDepth)
+  cells-lie = (elements-inside file Cells (parts .memory .to) (parts .cells) (good .cells-whole), good .cells-whole .fit)
+
+  pub budget-lies : parts .budget .from + 4 * parts .budget .count ≤ length file
+  budget-lies = elements-inside file Budget (parts .cells .to) (parts .budget) (good .budget-whole)
+
+-- what is placed is the image
+module _ (file : List ℕ) (parts : Parts) where
+  pub memory-placed : (before after : List ℕ) → length before ≡ memoryLength → after ≡ padded (length before) (valuesIn file Memory (parts .memory))
+      → after ≡ padded memoryLength (imageIn file parts .memory)
+  unfolding imageIn
+  memory-placed before after long e = e ∙ ap (λ (size : ℕ). padded size (valuesIn file Memory (parts .memory))) long
+
+  pub machine-placed : (fresh : Machine) (cells : List ℕ) (budget : ℕ) → fresh ≡ freshMachine → cells ≡ padded cellsDepth (valuesIn file Cells (parts .cells))
+      → budget ≡ budgetOf (valuesIn file Budget (parts .budget))
+      → _≡_ {A = Handed}
+      (record {
+        says = gives tt;
+        machine = record { cells = cells; p = parts .cells .count; links = fresh .links; counter = fresh .counter; flag = fresh .flag };
+        budget = budget;
+      })
+      (loadedFrom (imageIn file parts))
+  unfolding imageIn machineWith loadedFrom freshMachine
+  machine-placed fresh cells budget f c b =
+      let p : length (valuesIn file Cells (parts .cells)) ≡ parts .cells .count = length-row-at 4 (parts .cells .count) file (parts .cells .from) in
+      λ t. record {
+        says = gives tt;
+        machine = record { cells = c t; p = sym p t; links = f t .links; counter = f t .counter; flag = f t .flag };
+        budget = b t;
+      }
+
+-- the promise of a good file
+pub good-answer : (file before after : List ℕ) (handed : Handed) (parts : Parts) → Bytes file → length before ≡ memoryLength → judgedOf file ≡ judged.Good parts
+    → after ≡ padded memoryLength (imageIn file parts .memory) → handed ≡ loadedFrom (imageIn file parts) → Read file before after handed
+good-answer file before after handed parts bytes long h m l =
+    let good = good-file file parts h in
+    subst₂ (λ (x : List ℕ) (y : Handed). Read file before x y) (sym m) (sym l)
+    (read (imageIn file parts) long (image-allowed file bytes parts good) (image-spells file bytes parts good))
+
+-- and of the two refusals
+pub memory-refused : (file before : List ℕ) (handed : Handed) → (length before ≡ memoryLength → ⊥) → handed ≡ refusedWith otherMemory → Read file before before handed
+memory-refused file before handed other e = subst (λ (h : Handed). Read file before before h) (sym e) (wrong-memory other)
+
+pub file-refused : (file before : List ℕ) (handed : Handed) (j : Judged) (fault : Fault) → length before ≡ memoryLength → j ≡ judgedOf file
+    → j ≡ judged.Bad fault → handed ≡ refusedWith badFile → Read file before before handed
+file-refused file before handed j fault long is bad e =
+    subst (λ (h : Handed). Read file before before h) (sym e) (not-spelled long (none-spells file fault (sym is ∙ bad)))

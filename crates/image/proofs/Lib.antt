@@ -1,2 +1,4 @@
+pub mod Reading
+pub mod Stops
 pub mod Placing
 pub mod Answers

@@ -2,13 +2,16 @@
 use mathlib.Core.List.{List, [], _∷_, _++_, append-assoc, append-nil}
 use mathlib.Core.Path.{_≡_, refl, sym, ap, _∙_}
 use Prim.Native.Nat.{ℕ, zero, suc, _+_, _-_, _*_, _≤_, _<_}
+use native.Mathlib.Nat.{mul-zero, mul-suc}
 use native.Mathlib.Numerals.{add-one}
 use native.Mathlib.Omega.{arith}
 use lib.ListN.{length, take, drop, getD, set, replicate, length-append, length-replicate, replicate-append-replicate, drop-of-length-le}
 use lib.Seq.{drop-cons, set-at, take-at, append-snoc, length-take-le}
-use Rattle.image.specs.Judging.{cellAt, cellsAt}
-use Rattle.image.specs.Loading.{padded}
-use Rattle.image.specs.Laws.Numbers.{length-cells}
+use Rattle.numbers.specs.Bytes.{byteAt, numberAt}
+use Rattle.numbers.specs.Rows.{rowAt}
+use Rattle.numbers.specs.Laws.Rows.{length-row-at}
+use Rattle.plain.specs.Zeros.{padded}
+use Rattle.image.specs.Format.{budgetOf}
 
 one-zero-more : (j : ℕ) (ys : List ℕ) → replicate j 0 ++ 0 ∷ ys ≡ replicate (j + 1) 0 ++ ys
 one-zero-more j ys =
@@ -60,21 +63,41 @@ set-padded size xs v h =
     ∙ sym (append-snoc xs v (replicate rest 0))
     ∙ ap (λ (n : ℕ). (xs ++ (v ∷ [])) ++ replicate n 0) less
 
--- one more cell stands at the end
-pub cells-more : (file : List ℕ) (at n : ℕ) → cellsAt file at (suc n) ≡ cellsAt file at n ++ (cellAt file (at + 4 * n) ∷ [])
-unfolding cellsAt
-cells-more file at zero = let e : at ≡ at + 4 * 0 = omega arith in ap (λ (k : ℕ). cellAt file k ∷ []) e
-cells-more file at (suc n) =
-    let e : at + 4 + 4 * n ≡ at + 4 * suc n = omega arith in
-    ap (λ (l : List ℕ). cellAt file at ∷ l) (cells-more file (at + 4) n ∙ ap (λ (k : ℕ). cellsAt file (at + 4) n ++ (cellAt file k ∷ [])) e)
+-- one more number stands at the end
+pub row-more : (w : ℕ) (file : List ℕ) (at n : ℕ) → rowAt w (suc n) file at ≡ rowAt w n file at ++ (numberAt w file (at + w * n) ∷ [])
+unfolding rowAt
+row-more w file at zero =
+    let none : w * 0 ≡ 0 = mul-zero w in
+    let e : at ≡ at + w * 0 = omega arith in
+    ap (λ (k : ℕ). numberAt w file k ∷ []) e
+row-more w file at (suc n) =
+    let more : w * suc n ≡ w * n + w = mul-suc w n in
+    let e : at + w + w * n ≡ at + w * suc n = omega arith in
+    ap (λ (l : List ℕ). numberAt w file at ∷ l)
+    (row-more w file (at + w) n ∙ ap (λ (k : ℕ). rowAt w n file (at + w) ++ (numberAt w file k ∷ [])) e)
 
-pub cell-placed : (file cells : List ℕ) (at i v : ℕ) → i < 64 → v ≡ cellAt file (at + 4 * i) → cells ≡ padded 64 (cellsAt file at i)
-    → set cells i v ≡ padded 64 (cellsAt file at (i + 1))
-cell-placed file cells at i v h e f =
-    let long : length (cellsAt file at i) ≡ i = length-cells file at i in
+pub value-placed : (w size : ℕ) (file values : List ℕ) (at i v : ℕ) → i < size → v ≡ numberAt w file (at + w * i) → values ≡ padded size (rowAt w i file at)
+    → set values i v ≡ padded size (rowAt w (i + 1) file at)
+value-placed w size file values at i v h e f =
+    let long : length (rowAt w i file at) ≡ i = length-row-at w i file at in
     ap (λ (l : List ℕ). set l i v) f
-    ∙ ap (λ (k : ℕ). set (padded 64 (cellsAt file at i)) k v) (sym long)
-    ∙ set-padded 64 (cellsAt file at i) v (omega arith)
-    ∙ ap (λ (w : ℕ). padded 64 (cellsAt file at i ++ (w ∷ []))) e
-    ∙ ap (padded 64) (sym (cells-more file at i))
-    ∙ ap (λ (n : ℕ). padded 64 (cellsAt file at n)) (sym (add-one i))
+    ∙ ap (λ (k : ℕ). set (padded size (rowAt w i file at)) k v) (sym long)
+    ∙ set-padded size (rowAt w i file at) v (omega arith)
+    ∙ ap (λ (x : ℕ). padded size (rowAt w i file at ++ (x ∷ []))) e
+    ∙ ap (padded size) (sym (row-more w file at i))
+    ∙ ap (λ (n : ℕ). padded size (rowAt w n file at)) (sym (add-one i))
+
+-- bytes are read as they stand
+pub bytes-read : (file : List ℕ) (at n : ℕ) → at + n ≤ length file → rowAt 1 n file at ≡ take n (drop at file)
+unfolding rowAt
+bytes-read file at zero h = refl
+bytes-read file at (suc n) h =
+    ap (λ (l : List ℕ). byteAt file at ∷ l) (bytes-read file (at + 1) n (omega arith))
+    ∙ ap (λ (k : ℕ). byteAt file at ∷ take n (drop k file)) (add-one at)
+    ∙ ap (take (suc n)) (sym (drop-cons file at 0 (omega arith)))
+
+-- the budget of a file that gives one
+pub first-budget : (file : List ℕ) (at n : ℕ) → (n ≡ 0 → ⊥) → budgetOf (rowAt 4 n file at) ≡ numberAt 4 file at
+unfolding rowAt
+first-budget file at zero some = absurd (some refl)
+first-budget file at (suc n) some = refl

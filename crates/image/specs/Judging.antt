@@ -1,63 +1,102 @@
--- How the reader judges a file, test by test. Nothing here has to be believed: Sound.antt and Complete.antt tie it to what is spelled.
-use mathlib.Core.List.{List, [], _∷_}
-use mathlib.Core.Option.{Option, none, some}
-use Prim.Native.Nat.{ℕ, zero, suc, _+_, _*_}
-use lib.Dec.{leb, ltb, eqb}
-use lib.ListN.{length, take, drop}
-use Rattle.plain.specs.Choice.{pick}
-use Rattle.machine.specs.Memory.{numberAt}
-use Rattle.machine.specs.declared.Width.the-variants.{Long}
-use Rattle.image.specs.Format.{Image, mostMemory, mostCells, mostBudget, defaultBudget}
-use Rattle.image.specs.declared.Budget.{Budget}
-use Rattle.image.specs.declared.Budget.the-variants as budget
+-- What is wrong with a file, from its front: the first clause of document 01's list that fails, and the byte where it does.
+use mathlib.Core.Bool.{Bool}
+use mathlib.Core.List.{List}
+use mathlib.Core.Path.{_≡_}
+use Prim.Native.Nat.{ℕ, _+_, _*_}
+use lib.Dec.{leb, ltb}
+use lib.ListN.{length}
+use Rattle.plain.specs.Choice.{pick, both}
+use Rattle.plain.specs.Answer.{Answer, refuses, gives}
+use Rattle.machine.specs.Limits.{mostBudget}
+use Rattle.numbers.specs.Bytes.{numberAt}
+use Rattle.numbers.specs.Rows.{rowAt}
+use Rattle.numbers.specs.Slices.{inside}
+use Rattle.image.specs.Format.{Image, Allowed, spelled, limits, countWidth, budgetOf}
+use Rattle.image.specs.declared.Section.{Section}
+use Rattle.image.specs.declared.Section.the-variants as section
+use Rattle.image.specs.declared.Fault.{Fault}
+use Rattle.image.specs.declared.Fault.the-variants as fault
+use Rattle.image.specs.declared.Part.{Part}
+use Rattle.image.specs.declared.Parts.{Parts}
+use Rattle.image.specs.declared.Met.{Met}
+use Rattle.image.specs.declared.Met.the-variants as met
 use Rattle.image.specs.declared.Judged.{Judged}
 use Rattle.image.specs.declared.Judged.the-variants as judged
 
--- the count or cell at a place
-unfoldable pub cellAt : List ℕ → ℕ → ℕ
-cellAt file at = numberAt Long file at
+-- the number of a file that is not as document 01 says
+abbrev pub badFile : ℕ
+badFile = 14
 
--- as many cells from a place on
-unfoldable pub cellsAt : List ℕ → ℕ → ℕ → List ℕ
-cellsAt file at zero = []
-cellsAt file at (suc n) = cellAt file at ∷ cellsAt file (at + 4) n
+-- what an answer about a section says: 14, or its elements
+abbrev pub saysMet : Met → Answer Part
+saysMet (met.Bad fault) = refuses badFile
+saysMet (met.Whole part) = gives part
 
--- the last section, whose count stands at a place
-unfoldable pub budgetAt : List ℕ → ℕ → Budget
-budgetAt file at =
-    pick (eqb (cellAt file at) 0)
-    (pick (eqb (length file) (at + 4)) (budget.Of defaultBudget) budget.Bad)
-    (pick (eqb (cellAt file at) 1)
-    (pick (eqb (length file) (at + 8)) (pick (leb (cellAt file (at + 4)) mostBudget) (budget.Of (cellAt file (at + 4))) budget.Bad) budget.Bad)
-    budget.Bad)
+-- what an answer about a whole file says: 14, or the elements of its sections
+abbrev pub saysJudged : Judged → Answer Parts
+saysJudged (judged.Bad fault) = refuses badFile
+saysJudged (judged.Good parts) = gives parts
 
-abbrev pub withBudget : ℕ → ℕ → Budget → Judged
-withBudget n k budget.Bad = judged.Bad
-withBudget n k (budget.Of b) = judged.Good n k b
+abbrev pub countAllowed : Section → ℕ → Bool
+countAllowed s n = both (leb (limits s .fewest) n) (leb n (limits s .most))
 
--- n memory bytes and k cells
-unfoldable pub afterCells : List ℕ → ℕ → ℕ → Judged
-afterCells file n k =
-    pick (ltb mostCells k) judged.Bad
-    (pick (ltb (length file) (n + 4 * k + 8 + 4)) judged.Bad (withBudget n k (budgetAt file (n + 4 * k + 8))))
+-- the elements of a section of n that begins at a place
+abbrev pub partOf : Section → ℕ → ℕ → Part
+partOf s at n = record { from = at + countWidth; count = n; to = at + countWidth + limits s .width * n }
 
-unfoldable pub afterMemory : List ℕ → ℕ → Judged
-afterMemory file n =
-    pick (ltb n 1) judged.Bad
-    (pick (ltb mostMemory n) judged.Bad
-    (pick (ltb (length file) (n + 8)) judged.Bad (afterCells file n (cellAt file (n + 4)))))
+-- n elements that the file has, or is cut before their end
+abbrev pub elementsAt : List ℕ → Section → ℕ → ℕ → Met
+elementsAt file s at n = pick (leb (partOf s at n .to) (length file)) (met.Whole (partOf s at n)) (met.Bad (fault.Cut s at))
 
+-- a section that begins at a place: its count has to be there and within the limits, and its elements have to be there
+unfoldable pub partAt : List ℕ → Section → ℕ → Met
+partAt file s at =
+    pick (inside countWidth file at)
+    (pick (countAllowed s (numberAt countWidth file at)) (elementsAt file s at (numberAt countWidth file at)) (met.Bad (fault.Count s at)))
+    (met.Bad (fault.Cut s at))
+
+-- the values that a section holds
+abbrev pub valuesIn : List ℕ → Section → Part → List ℕ
+valuesIn file s part = rowAt (limits s .width) (part .count) file (part .from)
+
+-- after the last section: the budget has to be within its limit, and the file has to end
+unfoldable pub endJudged : List ℕ → Parts → Judged
+endJudged file parts =
+    pick (ltb mostBudget (budgetOf (valuesIn file section.Budget (parts .budget)))) (judged.Bad (fault.Budget (parts .budget .from)))
+    (pick (ltb (parts .budget .to) (length file)) (judged.Bad (fault.Surplus (parts .budget .to))) (judged.Good parts))
+
+-- goes on after a whole section
+abbrev pub after : Met → (Part → Judged) → Judged
+after (met.Bad fault) next = judged.Bad fault
+after (met.Whole part) next = next part
+
+-- section after section, each where the one before it ends
 unfoldable pub judgedOf : List ℕ → Judged
-judgedOf file = pick (ltb (length file) 4) judged.Bad (afterMemory file (cellAt file 0))
+judgedOf file =
+    after (partAt file section.Memory 0) λ memory.
+    after (partAt file section.Cells (memory .to)) λ cells.
+    after (partAt file section.Budget (cells .to)) λ budget.
+    endJudged file (record { memory = memory; cells = cells; budget = budget })
 
--- the image whose sections stand where the counts n and k put them
-abbrev pub budgetIn : List ℕ → ℕ → Option ℕ
-budgetIn file at = pick (eqb (cellAt file at) 0) none (some (cellAt file (at + 4)))
+-- where the sections of an image's file stand
+abbrev pub memoryPart : Image → Part
+memoryPart i = partOf section.Memory 0 (length (i .memory))
 
-unfoldable pub imageIn : List ℕ → ℕ → ℕ → Image
-imageIn file n k =
-    record {
-      memory = take n (drop 4 file);
-      cells = cellsAt file (n + 8) k;
-      budget = budgetIn file (n + 4 * k + 8);
-    }
+abbrev pub cellsPart : Image → Part
+cellsPart i = partOf section.Cells (memoryPart i .to) (length (i .cells))
+
+abbrev pub budgetPart : Image → Part
+budgetPart i = partOf section.Budget (cellsPart i .to) (length (i .budget))
+
+abbrev pub partsOf : Image → Parts
+partsOf i = record { memory = memoryPart i; cells = cellsPart i; budget = budgetPart i }
+
+-- `Says file answer`: a file that spells an image gives its sections, any other is 14
+pub data Says (file : List ℕ) : Answer Parts → Type 0 where
+  spells : (i : Image) → Allowed i → spelled i ≡ file → Says file (gives (partsOf i))
+  spells-none : ((i : Image) → Allowed i → spelled i ≡ file → ⊥) → Says file (refuses badFile)
+
+-- `Judges file judged`: the answer, and for a bad file the first clause that fails and its place
+pub record Judges (file : List ℕ) (judged : Judged) : Type 0 where
+  pub answer : Says file (saysJudged judged)
+  pub clause : judged ≡ judgedOf file

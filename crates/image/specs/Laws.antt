@@ -1,4 +1,4 @@
-pub mod Numbers
+pub mod Section
 pub mod Sound
 pub mod Complete
 pub mod Only

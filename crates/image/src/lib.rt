@@ -1,14 +1,66 @@
 // The reader of image files: document 01, "Image file".
-mod judge;
+mod judging;
 mod place;
+mod sections;
 
-use links::Links;
+pub use judging::judge;
 use machine::Machine;
+pub use sections::LONGEST_FILE;
+pub use sections::longest_file;
 ghost use mathlib.Core.Path.{_≡_};
-ghost use Rattle.image.specs.Loading.{Read, refusedWith};
+ghost use Rattle.image.specs.Loading.{Read, refusedWith, handed};
 
-// How many bytes the lent memory has.
-pub(crate) const MEMORY: usize = 32768;
+// The sections of a file, in their order.
+pub enum Section {
+    Memory,
+    Cells,
+    Budget,
+}
+
+// What a section may hold: the bytes of an element, the fewest elements and the most.
+pub struct Limits {
+    pub width: usize,
+    pub fewest: usize,
+    pub most: usize,
+}
+
+// The elements of a section: the byte of the file where they begin, how many they are, and the byte after them.
+pub struct Part {
+    pub from: usize,
+    pub count: usize,
+    pub to: usize,
+}
+
+// The elements of each section.
+pub struct Parts {
+    pub memory: Part,
+    pub cells: Part,
+    pub budget: Part,
+}
+
+// What is wrong with a file, and at which byte of it.
+pub enum Fault {
+    // The file ends before the section that begins here does.
+    Cut(Section, usize),
+    // The section's count, which stands here, is outside its limits.
+    Count(Section, usize),
+    // The budget that stands here passes its limit.
+    Budget(usize),
+    // What stands from here on belongs to no section.
+    Surplus(usize),
+}
+
+// A section: what is wrong with it, or its elements.
+pub(crate) enum Met {
+    Bad(Fault),
+    Whole(Part),
+}
+
+// A whole file: what is wrong with it, or the elements of its sections.
+pub enum Judged {
+    Bad(Fault),
+    Good(Parts),
+}
 
 // A good file has no answer number.
 pub enum Verdict {
@@ -23,24 +75,14 @@ pub struct Loaded {
     pub budget: u32,
 }
 
-// The budget section: not as document 01 says, or the budget it comes to.
-pub(crate) enum Budget {
-    Bad,
-    Of(u32),
-}
+// The answer to a memory of another length.
+pub const OTHER_MEMORY: u32 = 2;
 
-// A whole file: not as document 01 says, or how many memory bytes and cells it has, and its budget.
-pub(crate) enum Judged {
-    Bad,
-    Good {
-        bytes: usize,
-        cells: usize,
-        budget: u32,
-    },
-}
+// The answer to a file that is not as document 01 says.
+pub const BAD_FILE: u32 = 14;
 
 fn refused(number: u32) -> Loaded
-    ensures { λ r. ⌜ r ≡ refusedWith number ⌝ }
+    ensures { λ r. ⌜ handed r ≡ refusedWith number ⌝ }
 {
     let machine = Machine::fresh();
     Loaded {
@@ -52,32 +94,13 @@ fn refused(number: u32) -> Loaded
 
 // The whole file is judged before memory is touched.
 pub fn read(file: &[u8], memory: &mut [u8]) -> Loaded
-    ensures { λ r. ⌜ Read (now (file .entry)) (now (memory .entry)) (now (memory .exit)) r ⌝ }
+    ensures { λ r. ⌜ Read (now (file .entry)) (now (memory .entry)) (now (memory .exit)) (handed r) ⌝ }
 {
-    if memory.len() != MEMORY {
-        return refused(2);
+    if memory.len() != Machine::MEMORY {
+        return refused(OTHER_MEMORY);
     }
-    let Judged::Good {
-        bytes,
-        cells,
-        budget,
-    } = judge::judge(file)
-    else {
-        return refused(14);
+    let Judged::Good(parts) = judge(file) else {
+        return refused(BAD_FILE);
     };
-    place::memory(file, bytes, memory);
-    let cells_read = place::cells(file, bytes + 8, cells);
-    let links = Links::fresh();
-    let machine = Machine {
-        cells: cells_read,
-        p: cells,
-        links,
-        counter: 0,
-        flag: 0,
-    };
-    Loaded {
-        verdict: Verdict::Good,
-        machine,
-        budget,
-    }
+    place::image(file, parts, memory)
 }

@@ -1,19 +1,31 @@
 // Places what a good file spells.
-use crate::judge;
+use crate::Loaded;
+use crate::Part;
+use crate::Parts;
+use crate::Section;
+use crate::Verdict;
+use crate::sections;
+use machine::Machine;
 ghost use mathlib.Core.Path.{_≡_};
 ghost use Prim.Native.Nat.{_+_, _*_, _≤_};
-ghost use lib.ListN.{length, take, drop};
-ghost use Rattle.image.specs.Judging.{cellsAt};
-ghost use Rattle.image.specs.Loading.{padded};
+ghost use lib.ListN.{length};
+ghost use Rattle.plain.specs.Zeros.{padded};
+ghost use Rattle.machine.specs.Limits.{memoryLength};
+ghost use Rattle.links.specs.Depths.{cellsDepth};
+ghost use Rattle.image.specs.Loading.{handed, loadedFrom};
+ghost use Rattle.image.specs.Judging.{valuesIn};
+ghost use Rattle.image.specs.Laws.Sound.{GoodFile, imageIn};
 
 // One pass: the file's memory bytes, then zeros.
-pub(crate) fn memory(file: &[u8], bytes: usize, memory: &mut [u8])
-    requires { ⌜ (4 + bytes ≤ length (now file)) × (bytes ≤ length (now memory)) ⌝ }
-    ensures { λ _. ⌜ now (memory .exit) ≡ padded (length (now (memory .entry))) (take bytes (drop 4 (now (file .entry)))) ⌝ }
+fn memory_bytes(file: &[u8], part: Part, memory: &mut [u8])
+    requires { ⌜ (part .from + part .count ≤ length (now file)) × (part .count ≤ length (now memory)) ⌝ }
+    ensures { λ _. ⌜ now (memory .exit) ≡ padded (length (now (memory .entry))) (valuesIn (now (file .entry)) Section.Memory part) ⌝ }
 {
+    let from = part.from;
+    let count = part.count;
     let mut i = 0;
-    while i < bytes {
-        memory[i] = file[4 + i];
+    while i < count {
+        memory[i] = file[from + i];
         i += 1;
     }
     while i < memory.len() {
@@ -22,16 +34,39 @@ pub(crate) fn memory(file: &[u8], bytes: usize, memory: &mut [u8])
     }
 }
 
-// The cells from a place on, and zeros above them.
-pub(crate) fn cells(file: &[u8], from: usize, count: usize) -> [u32; 64]
-    requires { ⌜ (from + 4 * count ≤ length (now file)) × (count ≤ 64) ⌝ }
-    ensures { λ r. ⌜ r ≡ padded 64 (cellsAt (now (file .entry)) from count) ⌝ }
+// The cells, and zeros above them.
+fn cells(file: &[u8], part: Part) -> [u32; Machine::CELLS]
+    requires { ⌜ (part .from + 4 * part .count ≤ length (now file)) × (part .count ≤ cellsDepth) ⌝ }
+    ensures { λ r. ⌜ r ≡ padded cellsDepth (valuesIn (now (file .entry)) Section.Cells part) ⌝ }
 {
-    let mut cells = [0u32; 64];
+    let from = part.from;
+    let count = part.count;
+    let mut cells = [0u32; Machine::CELLS];
     let mut i = 0;
     while i < count {
-        cells[i] = judge::cell_at(file, from + 4 * i);
+        cells[i] = sections::cell_at(file, from + 4 * i);
         i += 1;
     }
     cells
+}
+
+// The file is known to be good before anything is placed.
+pub(crate) fn image(file: &[u8], parts: Parts, memory: &mut [u8]) -> Loaded
+    requires { ⌜ GoodFile (now file) parts × (length (now memory) ≡ memoryLength) ⌝ }
+    ensures { λ r. ⌜ (now (memory .exit) ≡ padded memoryLength (imageIn (now (file .entry)) parts .memory)) × (handed r ≡ loadedFrom (imageIn (now (file .entry)) parts)) ⌝ }
+{
+    let bytes = parts.memory;
+    memory_bytes(file, bytes, memory);
+    let stack = parts.cells;
+    let placed = cells(file, stack);
+    let mut machine = Machine::fresh();
+    machine.cells = placed;
+    machine.p = stack.count;
+    let last = parts.budget;
+    let budget = sections::budget_in(file, last);
+    Loaded {
+        verdict: Verdict::Good,
+        machine,
+        budget,
+    }
 }

@@ -18,6 +18,8 @@ pub mod Standing
 pub mod Contents
 -- what a call and a CATCH make, field by field
 pub mod Called
+-- an action leaves links that fit
+pub mod Carries
 -- fresh links are sound
 pub mod Fresh
 -- no second answer

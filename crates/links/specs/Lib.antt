@@ -10,4 +10,6 @@ pub mod Allowed
 pub mod Fresh
 -- when links are what they were, and the actions that drop levels
 pub mod Restored
+-- what links that exist can hold
+pub mod Fits
 pub mod Laws

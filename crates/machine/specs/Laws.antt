@@ -16,8 +16,12 @@ pub mod Flags
 pub mod Granted
 -- a step keeps a well-formed state well formed
 pub mod Kept
+-- what a run accepts, part by part
+pub mod Accepted
 -- a step is one action on the linked stacks, and an allowed one
 pub mod Acts
+-- a step keeps what a machine that exists can hold
+pub mod Carries
 -- readings that document 01 rules out
 pub mod Readings
 -- the starred lines of the bench sheet

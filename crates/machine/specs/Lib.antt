@@ -18,4 +18,6 @@ pub mod Step
 pub mod Run
 -- the starred lines of the bench sheet
 pub mod Sheet
+-- what a machine that exists can hold
+pub mod Fits
 pub mod Laws

@@ -4,5 +4,6 @@ pub mod Choice
 pub mod Answer
 -- numbers, then zeros
 pub mod Zeros
--- what a choice says of its parts
+-- a fact about each element of a list
+pub mod All
 pub mod Laws

@@ -7,7 +7,8 @@ use Rattle.machine.specs.Limits.{mostBudget}
 use Rattle.machine.specs.State.{Whole}
 use Rattle.machine.specs.Run.{runOf, acceptable}
 use Rattle.machine.specs.declared.Machine.{Machine}
-use Rattle.demands.specs.Laws.Accepted.{taken, accept, history-kept, same-length}
+use Rattle.machine.specs.Laws.Accepted.{taken, accept}
+use Rattle.demands.specs.Laws.Histories.{history-kept, same-length}
 use Rattle.demands.specs.Theorems.One.{one}
 
 -- what a run hands back is whole, and the next run takes it, whatever its budget within the limit

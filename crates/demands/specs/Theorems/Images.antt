@@ -4,42 +4,32 @@ use mathlib.Core.List.{List}
 use Prim.Native.Nat.{ℕ}
 use native.Mathlib.Omega.{arith}
 use lib.ListN.{length}
-use Rattle.image.specs.Format.{Image, Allowed, spelled, mostMemory}
-use Rattle.image.specs.Loading.{Read, wrong-memory, not-spelled, read, loadedFrom, refusedWith, padded}
+use Rattle.plain.specs.Answer.{refuses, gives}
+use Rattle.machine.specs.Limits.{memoryLength}
+use Rattle.image.specs.Format.{Image, Allowed, spelled}
+use Rattle.image.specs.Loading.{Handed, Read, wrong-memory, not-spelled, read, loadedFrom, refusedWith}
 use Rattle.image.specs.Laws.Only.{only-image}
-use Rattle.image.specs.declared.Loaded.{Loaded}
-use Rattle.image.specs.declared.Verdict.the-variants.{Good, Refused}
+use Rattle.demands.specs.Images.{Untouched, Spelled}
 
 -- Demand 1: whatever the reader refuses, the lent memory is as it was, the machine fresh and the budget 0. This rules out a memory
 -- that is filled before the whole file is judged.
-pub record Untouched (before after : List ℕ) (loaded : Loaded) (answer : ℕ) : Type 0 where
-  pub memory : after ≡ before
-  pub handed : loaded ≡ refusedWith answer
-
-pub refused-image : {file before after : List ℕ} {loaded : Loaded} → Read file before after loaded → (answer : ℕ) →
-    loaded .verdict ≡ Refused answer → Untouched before after loaded answer
+pub refused-image : {file before after : List ℕ} {handed : Handed} → Read file before after handed → (answer : ℕ) →
+    handed .says ≡ refuses answer → Untouched before after handed answer
 unfolding refusedWith loadedFrom
-refused-image (wrong-memory h) answer e = record { memory = refl; handed = cc }
-refused-image (not-spelled h n) answer e = record { memory = refl; handed = cc }
+refused-image (wrong-memory h) answer e = record { memory = refl; refusal = cc }
+refused-image (not-spelled h n) answer e = record { memory = refl; refusal = cc }
 refused-image (read i h a s) answer e = let z : _≡_ {A = ℕ} 0 1 = cc in absurd (omega arith)
 
 -- Demand 2: a file is accepted exactly when some image spells it, and that image is what is read.
-pub record Spelled (file after : List ℕ) (loaded : Loaded) : Type 0 where
-  pub image : Image
-  pub allowed : Allowed image
-  pub spells : spelled image ≡ file
-  pub fills : after ≡ padded mostMemory (image .memory)
-  pub hands : loaded ≡ loadedFrom image
-
-pub accepted-is-spelled : {file before after : List ℕ} {loaded : Loaded} → Read file before after loaded → loaded .verdict ≡ Good →
-    Spelled file after loaded
+pub accepted-is-spelled : {file before after : List ℕ} {handed : Handed} → Read file before after handed → handed .says ≡ gives tt →
+    Spelled file after handed
 unfolding refusedWith
 accepted-is-spelled (wrong-memory h) e = let z : _≡_ {A = ℕ} 0 1 = cc in absurd (omega arith)
 accepted-is-spelled (not-spelled h n) e = let z : _≡_ {A = ℕ} 0 1 = cc in absurd (omega arith)
 accepted-is-spelled (read i h a s) e = record { image = i; allowed = a; spells = s; fills = refl; hands = refl }
 
-pub spelled-is-accepted : {file before after : List ℕ} {loaded : Loaded} → Read file before after loaded → length before ≡ mostMemory →
-    (i : Image) → Allowed i → spelled i ≡ file → loaded .verdict ≡ Good
+pub spelled-is-accepted : {file before after : List ℕ} {handed : Handed} → Read file before after handed → length before ≡ memoryLength →
+    (i : Image) → Allowed i → spelled i ≡ file → handed .says ≡ gives tt
 unfolding loadedFrom
 spelled-is-accepted (wrong-memory h) long i a s = absurd (h long)
 spelled-is-accepted (not-spelled h n) long i a s = absurd (n i a s)

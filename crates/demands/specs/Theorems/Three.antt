@@ -7,7 +7,8 @@ use native.Mathlib.Omega.{arith}
 use Rattle.machine.specs.Step.{done, stepOf}
 use Rattle.demands.specs.History.{World, codeAt, pointerE, Moment, Resets, History, here, then, Above, Accepted}
 use Rattle.demands.specs.Back.{Back}
-use Rattle.demands.specs.Laws.Accepted.{taken, history-kept}
+use Rattle.machine.specs.Laws.Accepted.{taken}
+use Rattle.demands.specs.Laws.Histories.{history-kept}
 use Rattle.demands.specs.Laws.Stood.{Stood, catch-stood, moment-next, reset-down}
 
 first-above : (n : ℕ) {w v : World} (h : History w v) → Above n h → n < pointerE w

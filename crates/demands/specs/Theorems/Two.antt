@@ -26,7 +26,7 @@ use Rattle.demands.specs.Lowest.{Applies, First, Lowest}
 use Rattle.demands.specs.Laws.Lowest.{none-applies}
 use Rattle.demands.specs.Laws.Refused.{refused-first, refused-lowest}
 use Rattle.demands.specs.Laws.Carried.{unrefused}
-use Rattle.demands.specs.Laws.Accepted.{taken, accept}
+use Rattle.machine.specs.Laws.Accepted.{taken, accept}
 use Rattle.demands.specs.Laws.Added.{counted-on}
 
 -- A run of acceptable input starts with nothing counted; any other input is answered 2.

@@ -1,13 +1,11 @@
 -- The file is judged first: a bad one spells no image, a good one spells the image that is then placed.
-use mathlib.Core.Path.{_≡_, sym, subst, _∙_}
+use mathlib.Core.Path.{_≡_, sym, _∙_}
 use native.Mathlib.Omega.{arith}
 use lib.ListN.{length}
+use Rattle.machine.specs.Limits.{memoryLength}
+use Rattle.image.specs.Laws.Sound.{good-file}
+use Rattle.image.proofs.Answers.{good-answer, memory-refused, file-refused}
 use borrow.Author.Needs.{needs}
-use Rattle.image.specs.Format.{mostMemory}
-use Rattle.image.specs.Loading.{Read, wrong-memory, not-spelled}
-use Rattle.image.specs.declared.Loaded.{Loaded}
-use Rattle.image.specs.Laws.Computed.{none-spells}
-use Rattle.image.proofs.Answers.{inside, good-answer}
 use Rattle.image.proofs.read.Statement.{statement}
 use Rattle.image.proofs.read.Tie as tie
 
@@ -17,15 +15,14 @@ refused-requires c κs = search needs
 returns : tie.Need-returns
 returns c =
     let start = c .before .before .before .before in
-    let other : length (start .args .memory .now) ≡ mostMemory → ⊥ = omega arith in
-    subst (λ (l : Loaded). Read (start .args .file .now) (start .args .memory .now) (start .args .memory .now) l) (sym (c .refused .ensures))
-    (wrong-memory other)
+    let other : length (start .args .memory .now) ≡ memoryLength → ⊥ = omega arith in
+    memory-refused (start .args .file .now) (start .args .memory .now) _ other (c .refused .ensures)
 
 judge-requires : tie.Need-judge-requires
 judge-requires c κs = search needs
 
-enum-known-bytes : tie.Need-enum-known-bytes
-enum-known-bytes c = search needs
+enum-known-parts : tie.Need-enum-known-parts
+enum-known-parts c = search needs
 
 enum-told : tie.Need-enum-told
 enum-told c = search needs
@@ -36,46 +33,25 @@ refused-requires-2 c κs = search needs
 returns-2 : tie.Need-returns-2
 returns-2 c =
     let start = c .before .before .before .before .before .before .before in
-    let long : length (start .args .memory .now) ≡ mostMemory = omega arith in
-    let bad = sym (c .before .before .before .judge .ensures) ∙ c .before .enum-told .given .1 in
-    subst (λ (l : Loaded). Read (start .args .file .now) (start .args .memory .now) (start .args .memory .now) l) (sym (c .refused2 .ensures))
-    (not-spelled long (none-spells (start .args .file .now) bad))
+    let long : length (start .args .memory .now) ≡ memoryLength = omega arith in
+    file-refused (start .args .file .now) (start .args .memory .now) _ _ _ long (c .before .before .before .judge .ensures .clause) (c .before .enum-told .given .1) (c .refused2 .ensures)
 
-memory-requires : tie.Need-memory-requires
-memory-requires c κs =
+image-requires : tie.Need-image-requires
+image-requires c κs =
     let start = c .before .before .before .before .before .before .before .before in
-    let good = sym (c .before .before .before .before .judge .ensures) ∙ c .before .before .bytes .given .1 in
-    let in-file = inside (start .args .file .now) _ _ _ good in
-    omega arith
-
-add-cells : tie.Need-add-cells
-add-cells c =
-    let start = c .before .before .before .before .before .before .before .before .before .before .before in
-    let good = sym (c .before .before .before .before .before .before .before .judge .ensures) ∙ c .before .before .before .before .before .bytes .given .1 in
-    let in-file = inside (start .args .file .now) _ _ _ good in
-    omega arith
-
-cells-requires : tie.Need-cells-requires
-cells-requires c κs =
-    let start = c .before .before .before .before .before .before .before .before .before .before .before in
-    let good = sym (c .before .before .before .before .before .before .before .judge .ensures) ∙ c .before .before .before .before .before .bytes .given .1 in
-    let in-file = inside (start .args .file .now) _ _ _ good in
-    omega arith
-
-fresh-requires : tie.Need-fresh-requires
-fresh-requires c κs = search needs
+    let long : length (start .args .memory .now) ≡ memoryLength = omega arith in
+    (good-file (start .args .file .now) _ (sym (c .before .before .before .before .judge .ensures .clause) ∙ c .before .before .parts .given .1), long)
 
 same-length : tie.Need-same-length
 same-length c = search needs
 
 returns-3 : tie.Need-returns-3
 returns-3 c =
-    let start = c .before .before .before .before .before .before .before .before .before .before .before .before .before in
-    let known = c .before .before .before .before .before .before .before .before .before .before .before .before in
-    let good = sym (c .before .before .before .before .before .before .before .before .before .judge .ensures) ∙ c .before .before .before .before .before .before .before .bytes .given .1 in
-    good-answer (start .args .file .now) (start .args .memory .now) _ (c .before .cells .result) (c .fresh .result) _ _ _
-    (λ i. known .shared-slice-known .given i .fits) (omega arith) good
-    (c .before .before .before .before .memory .ensures) (c .before .cells .ensures) (c .fresh .ensures)
+    let start = c .before .before .before .before .before .before .before .before .before .before .before in
+    let long : length (start .args .memory .now) ≡ memoryLength = omega arith in
+    let known = c .before .before .before .before .before .before .before .before .before .before .shared-slice-known in
+    good-answer (start .args .file .now) (start .args .memory .now) _ _ _ (λ i. known .given i .fits) long (sym (c .before .before .before .before .before .before .before .judge .ensures .clause) ∙ c .before .before .before .before .before .parts .given .1)
+    (c .before .before .image .ensures .0) (c .before .before .image .ensures .1)
 
 pub read-spec : {M : Type 1} → statement M
 read-spec =
@@ -84,13 +60,10 @@ read-spec =
     refused-requires
     returns
     judge-requires
-    enum-known-bytes
+    enum-known-parts
     enum-told
     refused-requires-2
     returns-2
-    memory-requires
-    add-cells
-    cells-requires
-    fresh-requires
+    image-requires
     same-length
     returns-3)

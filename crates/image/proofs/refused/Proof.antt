@@ -1,6 +1,6 @@
 -- A refusal hands back a fresh machine and no budget.
-use borrow.Author.Needs.{needs}
 use Rattle.image.specs.Loading.{refusedWith}
+use borrow.Author.Needs.{needs}
 use Rattle.image.proofs.refused.Statement.{statement}
 use Rattle.image.proofs.refused.Tie as tie
 

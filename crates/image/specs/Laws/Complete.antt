@@ -1,158 +1,89 @@
--- What is spelled is read: the reader accepts the file of every allowed image, and finds that image in it.
-use mathlib.Core.List.{List, [], _++_, append-assoc}
-use mathlib.Core.Option.{Option, none, some}
+-- What is spelled is judged good: of every allowed image, and the image is found in its file's parts.
+use mathlib.Core.List.{List, [], _++_, append-assoc, append-nil}
 use mathlib.Core.Path.{_≡_, refl, sym, ap, _∙_}
-use Prim.Native.Nat.{ℕ, _+_, _*_, _^_, _≤_, _<_}
+use Prim.Native.Nat.{ℕ, _+_, _*_, _≤_}
 use native.Mathlib.Omega.{arith}
-use lib.ListN.{length, take, drop, length-append}
-use lib.Seq.{take-at, drop-at}
-use borrow.Author.Tests.{le-ltb, le-leb, eq-eqb}
-use Rattle.image.specs.Format.{Image, Allowed, BudgetWithin, budgetCells, number, numbers, byteSection, cellSection, spelled, mostMemory, mostCells, mostBudget}
-use Rattle.image.specs.Loading.{budgetOf}
-use Rattle.image.specs.Judging.{cellAt, cellsAt, budgetAt, afterCells, afterMemory, judgedOf, budgetIn, imageIn}
-use Rattle.image.specs.Laws.Numbers.{length-number, length-numbers, cell-read, cells-read}
-use Rattle.image.specs.declared.Budget.the-variants as budget
+use lib.ListN.{length, length-append}
+use borrow.Author.Tests.{le-ltb}
+use Rattle.machine.specs.Limits.{mostBudget}
+use Rattle.image.specs.Format.{Image, Allowed, countWidth, sectionOf, budgetOf, spelled, longestFile}
+use Rattle.image.specs.Judging.{partAt, valuesIn, endJudged, judgedOf, memoryPart, cellsPart, budgetPart, partsOf}
+use Rattle.image.specs.Laws.Section.{length-section, section-judged, section-read}
+use Rattle.image.specs.Laws.Sound.{imageIn}
+use Rattle.image.specs.declared.Section.the-variants.{Memory, Cells, Budget}
+use Rattle.image.specs.declared.Met.the-variants as met
 use Rattle.image.specs.declared.Judged.the-variants as judged
-
-length-bytes : (bytes : List ℕ) → length (byteSection bytes) ≡ length bytes + 4
-unfolding byteSection
-length-bytes bytes =
-    let four : length (number (length bytes)) ≡ 4 = length-number (length bytes) in
-    length-append (number (length bytes)) bytes ∙ omega arith
-
-length-section : (cells : List ℕ) → length (cellSection cells) ≡ 4 * length cells + 4
-unfolding cellSection
-length-section cells =
-    let four : length (number (length cells)) ≡ 4 = length-number (length cells) in
-    let rest : length (numbers cells) ≡ 4 * length cells = length-numbers cells in
-    length-append (number (length cells)) (numbers cells) ∙ omega arith
-
--- the last section after anything: its budget is read
-module _ (p : List ℕ) (at : ℕ) (long : length p ≡ at) where
-  budget-read : (o : Option ℕ) → BudgetWithin o → budgetAt (p ++ cellSection (budgetCells o)) at ≡ budget.Of (budgetOf o)
-  unfolding budgetAt cellSection numbers
-  budget-read none h =
-      let count : cellAt (p ++ (number 0 ++ [])) at ≡ 0 = cell-read p [] 0 at long (omega arith) in
-      let four : length (number 0 ++ []) ≡ 4 = length-append (number 0) [] ∙ ap (λ (n : ℕ). n + 0) (length-number 0) in
-      let whole : length (p ++ (number 0 ++ [])) ≡ at + 4 = length-append p (number 0 ++ []) ∙ omega arith in
-      simp (count, whole, eq-eqb (at + 4) (at + 4) refl)
-  budget-read (some b) h =
-      let small : b < 2 ^ 32 = omega arith in
-      let count : cellAt (p ++ (number 1 ++ (number b ++ []))) at ≡ 1 = cell-read p (number b ++ []) 1 at long (omega arith) in
-      let four : length (number 1) ≡ 4 = length-number 1 in
-      let more : length (p ++ number 1) ≡ at + 4 = length-append p (number 1) ∙ omega arith in
-      let cell : cellAt (p ++ (number 1 ++ (number b ++ []))) (at + 4) ≡ b =
-      ap (λ (l : List ℕ). cellAt l (at + 4)) (sym (append-assoc p (number 1) (number b ++ []))) ∙ cell-read (p ++ number 1) [] b (at + 4) more small in
-      let last : length (number b ++ []) ≡ 4 = length-append (number b) [] ∙ ap (λ (n : ℕ). n + 0) (length-number b) in
-      let eight : length (number 1 ++ (number b ++ [])) ≡ 8 = length-append (number 1) (number b ++ []) ∙ omega arith in
-      let whole : length (p ++ (number 1 ++ (number b ++ []))) ≡ at + 8 = length-append p (number 1 ++ (number b ++ [])) ∙ omega arith in
-      simp (count, cell, whole, eq-eqb (at + 8) (at + 8) refl, le-leb b mostBudget h)
-
-  budget-found : (o : Option ℕ) → BudgetWithin o → budgetIn (p ++ cellSection (budgetCells o)) at ≡ o
-  unfolding cellSection numbers
-  budget-found none h =
-      let count : cellAt (p ++ (number 0 ++ [])) at ≡ 0 = cell-read p [] 0 at long (omega arith) in
-      simp count
-  budget-found (some b) h =
-      let small : b < 2 ^ 32 = omega arith in
-      let count : cellAt (p ++ (number 1 ++ (number b ++ []))) at ≡ 1 = cell-read p (number b ++ []) 1 at long (omega arith) in
-      let four : length (number 1) ≡ 4 = length-number 1 in
-      let more : length (p ++ number 1) ≡ at + 4 = length-append p (number 1) ∙ omega arith in
-      let cell : cellAt (p ++ (number 1 ++ (number b ++ []))) (at + 4) ≡ b =
-      ap (λ (l : List ℕ). cellAt l (at + 4)) (sym (append-assoc p (number 1) (number b ++ []))) ∙ cell-read (p ++ number 1) [] b (at + 4) more small in
-      simp (count, cell)
 
 module _ (i : Image) (ok : Allowed i) where
   abbrev first : List ℕ
-  first = byteSection (i .memory)
+  first = sectionOf Memory (i .memory)
 
   abbrev second : List ℕ
-  second = cellSection (i .cells)
+  second = sectionOf Cells (i .cells)
 
   abbrev third : List ℕ
-  third = cellSection (budgetCells (i .budget))
+  third = sectionOf Budget (i .budget)
 
-  long-first : length first ≡ length (i .memory) + 4
-  long-first = length-bytes (i .memory)
+  long-first : length first ≡ memoryPart i .to
+  long-first = length-section Memory (i .memory) ∙ omega arith
 
-  long-both : length (first ++ second) ≡ length (i .memory) + 4 * length (i .cells) + 8
+  long-both : length (first ++ second) ≡ cellsPart i .to
   long-both =
-      let a : length first ≡ length (i .memory) + 4 = long-first in
-      let b : length second ≡ 4 * length (i .cells) + 4 = length-section (i .cells) in
+      let a : length first ≡ memoryPart i .to = long-first in
+      let b : length second ≡ countWidth + 4 * length (i .cells) = length-section Cells (i .cells) in
       length-append first second ∙ omega arith
 
-  regrouped : spelled i ≡ (first ++ second) ++ third
+  regrouped : spelled i ≡ (first ++ second) ++ (third ++ [])
   unfolding spelled
-  regrouped = sym (append-assoc first second third)
+  regrouped = sym (append-assoc first second third) ∙ ap (λ (l : List ℕ). (first ++ second) ++ l) (sym (append-nil third))
 
-  memory-count : cellAt (spelled i) 0 ≡ length (i .memory)
-  unfolding spelled byteSection
-  memory-count =
-      let h : length (i .memory) < 2 ^ 32 = omega (arith, ok .memory-fits) in
-      ap (λ (l : List ℕ). cellAt l 0) (append-assoc (number (length (i .memory))) (i .memory) (second ++ third))
-      ∙ cell-read [] (i .memory ++ (second ++ third)) (length (i .memory)) 0 refl h
+  whole-length : length (spelled i) ≡ budgetPart i .to
+  whole-length =
+      let a : length (first ++ second) ≡ cellsPart i .to = long-both in
+      let b : length third ≡ countWidth + 4 * length (i .budget) = length-section Budget (i .budget) in
+      ap length regrouped
+      ∙ length-append (first ++ second) (third ++ [])
+      ∙ ap (λ (l : List ℕ). length (first ++ second) + length l) (append-nil third)
+      ∙ omega arith
 
-  memory-found : take (length (i .memory)) (drop 4 (spelled i)) ≡ i .memory
-  unfolding spelled byteSection
-  memory-found =
-      ap (λ (l : List ℕ). take (length (i .memory)) (drop 4 l)) (append-assoc (number (length (i .memory))) (i .memory) (second ++ third))
-      ∙ ap (take (length (i .memory))) (drop-at (number (length (i .memory))) (i .memory ++ (second ++ third)) 4 (length-number (length (i .memory))))
-      ∙ take-at (i .memory) (second ++ third) (length (i .memory)) refl
+  -- no file is longer than the longest
+  pub no-longer : length (spelled i) ≤ longestFile
+  no-longer = omega (arith, whole-length, ok .memory-within .fit, ok .cells-within .fit, ok .budget-within .fit)
 
-  cell-count : cellAt (spelled i) (length (i .memory) + 4) ≡ length (i .cells)
-  unfolding spelled cellSection
-  cell-count =
-      let h : length (i .cells) < 2 ^ 32 = omega (arith, ok .cells-fit) in
-      ap (λ (l : List ℕ). cellAt (first ++ l) (length (i .memory) + 4)) (append-assoc (number (length (i .cells))) (numbers (i .cells)) third)
-      ∙ cell-read first (numbers (i .cells) ++ third) (length (i .cells)) (length (i .memory) + 4) long-first h
+  memory-judged : partAt (spelled i) Memory 0 ≡ met.Whole (memoryPart i)
+  unfolding spelled
+  memory-judged = section-judged Memory [] (second ++ third) (i .memory) 0 refl (ok .memory-within)
 
-  cells-found : cellsAt (spelled i) (length (i .memory) + 8) (length (i .cells)) ≡ i .cells
-  unfolding spelled cellSection
-  cells-found =
-      let count = number (length (i .cells)) in
-      let four : length count ≡ 4 = length-number (length (i .cells)) in
-      let a : length first ≡ length (i .memory) + 4 = long-first in
-      let long : length (first ++ count) ≡ length (i .memory) + 8 = length-append first count ∙ omega arith in
-      ap (λ (l : List ℕ). cellsAt l (length (i .memory) + 8) (length (i .cells)))
-      (ap (λ (l : List ℕ). first ++ l) (append-assoc count (numbers (i .cells)) third) ∙ sym (append-assoc first count (numbers (i .cells) ++ third)))
-      ∙ cells-read (first ++ count) third (i .cells) (length (i .memory) + 8) long (ok .cells-are)
+  cells-judged : partAt (spelled i) Cells (memoryPart i .to) ≡ met.Whole (cellsPart i)
+  unfolding spelled
+  cells-judged = section-judged Cells first third (i .cells) (memoryPart i .to) long-first (ok .cells-within)
 
-  budget-there : budgetAt (spelled i) (length (i .memory) + 4 * length (i .cells) + 8) ≡ budget.Of (budgetOf (i .budget))
-  budget-there =
-      ap (λ (l : List ℕ). budgetAt l (length (i .memory) + 4 * length (i .cells) + 8)) regrouped
-      ∙ budget-read (first ++ second) (length (i .memory) + 4 * length (i .cells) + 8) long-both (i .budget) (ok .budget-fits)
+  budget-judged : partAt (spelled i) Budget (cellsPart i .to) ≡ met.Whole (budgetPart i)
+  budget-judged =
+      ap (λ (l : List ℕ). partAt l Budget (cellsPart i .to)) regrouped
+      ∙ section-judged Budget (first ++ second) [] (i .budget) (cellsPart i .to) long-both (ok .budget-within)
 
-  room : length (i .memory) + 4 * length (i .cells) + 8 + 4 ≤ length (spelled i)
-  room =
-      let a : length (first ++ second) ≡ length (i .memory) + 4 * length (i .cells) + 8 = long-both in
-      let b : length third ≡ 4 * length (budgetCells (i .budget)) + 4 = length-section (budgetCells (i .budget)) in
-      let c : length (spelled i) ≡ length (first ++ second) + length third = ap length regrouped ∙ length-append (first ++ second) third in
-      omega arith
+  budget-read : valuesIn (spelled i) Budget (budgetPart i) ≡ i .budget
+  budget-read =
+      ap (λ (l : List ℕ). valuesIn l Budget (budgetPart i)) regrouped
+      ∙ section-read Budget (first ++ second) [] (i .budget) (cellsPart i .to) long-both (ok .budget-within)
 
-  -- every allowed image is found where the counts put it
-  pub found : imageIn (spelled i) (length (i .memory)) (length (i .cells)) ≡ i
-  unfolding imageIn
+  -- every allowed image is found where its sections stand
+  pub found : imageIn (spelled i) (partsOf i) ≡ i
+  unfolding imageIn spelled
   found =
-      let m = memory-found in
-      let c = cells-found in
-      let b : budgetIn (spelled i) (length (i .memory) + 4 * length (i .cells) + 8) ≡ i .budget =
-      ap (λ (l : List ℕ). budgetIn l (length (i .memory) + 4 * length (i .cells) + 8)) regrouped
-      ∙ budget-found (first ++ second) (length (i .memory) + 4 * length (i .cells) + 8) long-both (i .budget) (ok .budget-fits) in
+      let m = section-read Memory [] (second ++ third) (i .memory) 0 refl (ok .memory-within) in
+      let c = section-read Cells first third (i .cells) (memoryPart i .to) long-first (ok .cells-within) in
+      let b = budget-read in
       λ t. record { memory = m t; cells = c t; budget = b t }
 
-  -- the reader accepts its file
-  pub accepted : judgedOf (spelled i) ≡ judged.Good (length (i .memory)) (length (i .cells)) (budgetOf (i .budget))
-  unfolding judgedOf afterMemory afterCells
-  accepted =
-      let r : length (i .memory) + 4 * length (i .cells) + 8 + 4 ≤ length (spelled i) = room in
-      simp (
-        memory-count,
-        cell-count,
-        budget-there,
-        le-ltb (length (spelled i)) 4 (omega arith),
-        le-ltb (length (i .memory)) 1 (ok .some-memory),
-        le-ltb mostMemory (length (i .memory)) (ok .memory-fits),
-        le-ltb (length (spelled i)) (length (i .memory) + 8) (omega arith),
-        le-ltb mostCells (length (i .cells)) (ok .cells-fit),
-        le-ltb (length (spelled i)) (length (i .memory) + 4 * length (i .cells) + 8 + 4) r,
-      )
+  end-judged : endJudged (spelled i) (partsOf i) ≡ judged.Good (partsOf i)
+  unfolding endJudged
+  end-judged =
+      let end : length (spelled i) ≡ budgetPart i .to = whole-length in
+      simp (budget-read, le-ltb mostBudget (budgetOf (i .budget)) (ok .budget-low), le-ltb (budgetPart i .to) (length (spelled i)) (omega arith))
+
+  -- and its file is good
+  pub accepted : judgedOf (spelled i) ≡ judged.Good (partsOf i)
+  unfolding judgedOf
+  accepted = simp (memory-judged, cells-judged, budget-judged) end-judged

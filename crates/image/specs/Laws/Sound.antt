@@ -1,168 +1,109 @@
--- What the reader accepts is spelled: the image that stands where the counts put it is allowed and spells the whole file.
+-- What is judged good is spelled: the image that stands in its parts is allowed and spells the whole file.
 use mathlib.Core.Bool.{Bool, true, false}
-use mathlib.Core.List.{List, [], _++_, append-assoc}
-use mathlib.Core.Option.{Option, none, some}
-use mathlib.Core.Path.{_≡_, refl, sym, ap, _∙_}
-use Prim.Native.Nat.{ℕ, _+_, _-_, _*_, _≤_}
+use mathlib.Core.List.{List, [], _++_, append-nil}
+use mathlib.Core.Path.{_≡_, refl, sym, ap, subst, _∙_}
+use Prim.Native.Nat.{ℕ, _≤_}
 use native.Mathlib.Omega.{arith}
-use lib.Dec.{leb, ltb, eqb}
-use lib.ListN.{length, take, drop, length-drop, take-append-drop, drop-of-length-le}
-use lib.Seq.{drop-drop, length-take-le}
-use borrow.Author.Tests.{ltb-false, leb-true, eqb-true}
+use lib.Dec.{ltb}
+use lib.ListN.{length, drop, drop-of-length-le}
+use borrow.Author.Tests.{ltb-false}
 use Rattle.plain.specs.Choice.{pick}
-use Rattle.image.specs.Format.{Allowed, BudgetWithin, budgetCells, number, numbers, byteSection, cellSection, spelled, mostMemory, mostCells, mostBudget, defaultBudget}
-use Rattle.image.specs.Loading.{budgetOf}
-use Rattle.image.specs.Judging.{cellAt, cellsAt, budgetAt, withBudget, afterCells, afterMemory, judgedOf, budgetIn, imageIn}
-use Rattle.image.specs.Laws.Numbers.{Bytes, length-cells, cell-spelled, cells-spelled, cells-below}
-use Rattle.image.specs.declared.Budget.{Budget}
-use Rattle.image.specs.declared.Budget.the-variants as budget
+use Rattle.numbers.specs.Laws.Bytes.{Bytes}
+use Rattle.numbers.specs.Laws.Rows.{length-row-at, row-below}
+use Rattle.machine.specs.Limits.{mostBudget}
+use Rattle.image.specs.Format.{Image, Allowed, Within, limits, sectionOf, budgetOf, spelled}
+use Rattle.image.specs.Judging.{partAt, valuesIn, endJudged, after, judgedOf}
+use Rattle.image.specs.Laws.Section.{WholeAt, whole-at, section-spelled}
+use Rattle.image.specs.declared.Section.{Section}
+use Rattle.image.specs.declared.Section.the-variants.{Memory, Cells, Budget}
+use Rattle.image.specs.declared.Part.{Part}
+use Rattle.image.specs.declared.Parts.{Parts}
+use Rattle.image.specs.declared.Met.{Met}
+use Rattle.image.specs.declared.Met.the-variants as met
 use Rattle.image.specs.declared.Judged.{Judged}
 use Rattle.image.specs.declared.Judged.the-variants as judged
 
--- a part that is spelled, and what follows it
-followed : (file : List ℕ) (a n b : ℕ) (x r : List ℕ) → a + n ≡ b → x ≡ take n (drop a file) → r ≡ drop b file → x ++ r ≡ drop a file
-followed file a n b x r e h k =
-    ap (λ (l : List ℕ). l ++ r) h
-    ∙ ap (λ (l : List ℕ). take n (drop a file) ++ l) (k ∙ ap (λ (m : ℕ). drop m file) (sym e) ∙ sym (drop-drop n a file))
-    ∙ take-append-drop n (drop a file)
-
--- a good budget section: the budget that it spells, up to the end of the file
-pub record GoodBudget (file : List ℕ) (at b : ℕ) (o : Option ℕ) : Type 0 where
-  pub within : BudgetWithin o
-  pub comes-to : budgetOf o ≡ b
-  pub spells : cellSection (budgetCells o) ≡ drop at file
+-- the image that stands in the parts of a file
+unfoldable pub imageIn : List ℕ → Parts → Image
+imageIn file parts =
+    record { memory = valuesIn file Memory (parts .memory); cells = valuesIn file Cells (parts .cells); budget = valuesIn file Budget (parts .budget) }
 
 -- a good file: what its tests show
-pub record GoodFile (file : List ℕ) (n k b : ℕ) : Type 0 where
-  pub bytes-are : cellAt file 0 ≡ n
-  pub some-bytes : 1 ≤ n
-  pub bytes-fit : n ≤ mostMemory
-  pub cells-are : cellAt file (n + 4) ≡ k
-  pub cells-fit : k ≤ mostCells
-  pub inside : n + 4 * k + 8 + 4 ≤ length file
-  pub budget-is : budgetAt file (n + 4 * k + 8) ≡ budget.Of b
+pub record GoodFile (file : List ℕ) (parts : Parts) : Type 0 where
+  pub memory-whole : WholeAt file Memory 0 (parts .memory)
+  pub cells-whole : WholeAt file Cells (parts .memory .to) (parts .cells)
+  pub budget-whole : WholeAt file Budget (parts .cells .to) (parts .budget)
+  pub budget-low : budgetOf (valuesIn file Budget (parts .budget)) ≤ mostBudget
+  pub ends : length file ≤ parts .budget .to
+
+-- the part after which a good answer went on
+went-on : (m : Met) (next : Part → Judged) (parts : Parts) → after m next ≡ judged.Good parts → (part : Part) × (m ≡ met.Whole part) × (next part ≡ judged.Good parts)
+went-on (met.Bad fault) next parts e = absurd (let z : _≡_ {A = ℕ} 0 1 = cc in omega arith)
+went-on (met.Whole part) next parts e = (part, refl, e)
 
 -- a test that a good answer has passed
-budget-passed : (t : Bool) (x : Budget) (b : ℕ) → pick t x budget.Bad ≡ budget.Of b → (t ≡ true) × (x ≡ budget.Of b)
-budget-passed true x b e = (refl, e)
-budget-passed false x b e = absurd (let z : _≡_ {A = ℕ} 0 1 = cc in omega arith)
+passed : (t : Bool) (x y : Judged) (parts : Parts) → (x ≡ judged.Good parts → ⊥) → pick t x y ≡ judged.Good parts → (t ≡ false) × (y ≡ judged.Good parts)
+passed true x y parts other e = absurd (other e)
+passed false x y parts other e = (refl, e)
 
-file-passed : (t : Bool) (x : Judged) (n k b : ℕ) → pick t judged.Bad x ≡ judged.Good n k b → (t ≡ false) × (x ≡ judged.Good n k b)
-file-passed true x n k b e = absurd (let z : _≡_ {A = ℕ} 0 1 = cc in omega arith)
-file-passed false x n k b e = (refl, e)
+module _ (file : List ℕ) where
+  abbrev partsOf : Part → Part → Part → Parts
+  partsOf memory cells budget = record { memory = memory; cells = cells; budget = budget }
 
-with-passed : (n k : ℕ) (x : Budget) (n₁ k₁ b : ℕ) → withBudget n k x ≡ judged.Good n₁ k₁ b → (n ≡ n₁) × (k ≡ k₁) × (x ≡ budget.Of b)
-with-passed n k budget.Bad n₁ k₁ b e = absurd (let z : _≡_ {A = ℕ} 0 1 = cc in omega arith)
-with-passed n k (budget.Of b₀) n₁ k₁ b e = (cc, cc, cc)
+  abbrev afterCells : Part → Part → Judged
+  afterCells memory cells = after (partAt file Budget (cells .to)) λ budget. endJudged file (partsOf memory cells budget)
 
-module _ (file : List ℕ) (bytes : Bytes file) where
-  cell-section : (at v : ℕ) → at + 4 ≤ length file → v ≡ cellAt file at → (r : List ℕ) → r ≡ drop (at + 4) file → number v ++ r ≡ drop at file
-  cell-section at v inside e r h = followed file at 4 (at + 4) (number v) r refl (ap number e ∙ cell-spelled file at bytes inside) h
+  abbrev afterMemory : Part → Judged
+  afterMemory memory = after (partAt file Cells (memory .to)) (afterCells memory)
 
-  budget-case : (at b : ℕ) → at + 4 ≤ length file → (z : Bool) → eqb (cellAt file at) 0 ≡ z
-      → pick z (pick (eqb (length file) (at + 4)) (budget.Of defaultBudget) budget.Bad)
-      (pick (eqb (cellAt file at) 1)
-      (pick (eqb (length file) (at + 8)) (pick (leb (cellAt file (at + 4)) mostBudget) (budget.Of (cellAt file (at + 4))) budget.Bad) budget.Bad)
-      budget.Bad)
-      ≡ budget.Of b
-      → GoodBudget file at b (pick z none (some (cellAt file (at + 4))))
-  unfolding cellSection numbers
-  budget-case at b inside true e h =
-      let p = budget-passed (eqb (length file) (at + 4)) (budget.Of defaultBudget) b h in
-      let all : length file ≡ at + 4 = eqb-true _ _ (p .0) in
-      let same : budget.Of defaultBudget ≡ budget.Of b = p .1 in
-      record {
-        within = tt;
-        comes-to = cc;
-        spells = cell-section at 0 inside (sym (eqb-true _ _ e)) [] (sym (drop-of-length-le file {i = at + 4} (omega arith)));
-      }
-  budget-case at b inside false e h =
-      let cell = cellAt file (at + 4) in
-      let p = budget-passed (eqb (cellAt file at) 1) _ b h in
-      let q = budget-passed (eqb (length file) (at + 8)) _ b (p .1) in
-      let r = budget-passed (leb cell mostBudget) (budget.Of cell) b (q .1) in
-      let all : length file ≡ at + 8 = eqb-true _ _ (q .0) in
-      let same : budget.Of cell ≡ budget.Of b = r .1 in
-      record {
-        within = leb-true _ _ (r .0);
-        comes-to = cc;
-        spells = cell-section at 1 inside (sym (eqb-true _ _ (p .0))) (number cell ++ [])
-            (cell-section (at + 4) cell (omega arith) refl [] (sym (drop-of-length-le file {i = at + 4 + 4} (omega arith))));
-      }
+  pub good-file : (parts : Parts) → judgedOf file ≡ judged.Good parts → GoodFile file parts
+  unfolding judgedOf endJudged
+  good-file parts h =
+      let one = went-on (partAt file Memory 0) afterMemory parts h in
+      let memory = one .0 in
+      let two = went-on (partAt file Cells (memory .to)) (afterCells memory) parts (one .2) in
+      let cells = two .0 in
+      let three = went-on (partAt file Budget (cells .to)) (λ (x : Part). endJudged file (partsOf memory cells x)) parts (two .2) in
+      let budget = three .0 in
+      let four = passed (ltb mostBudget (budgetOf (valuesIn file Budget budget))) _ _ parts (λ e. let z : _≡_ {A = ℕ} 0 1 = cc in omega arith) (three .2) in
+      let five = passed (ltb (budget .to) (length file)) _ _ parts (λ e. let z : _≡_ {A = ℕ} 0 1 = cc in omega arith) (four .1) in
+      let same : partsOf memory cells budget ≡ parts = cc (five .1) in
+      subst (GoodFile file) same
+      (record {
+        memory-whole = whole-at file Memory 0 memory (one .1);
+        cells-whole = whole-at file Cells (memory .to) cells (two .1);
+        budget-whole = whole-at file Budget (cells .to) budget (three .1);
+        budget-low = ltb-false _ _ (four .0);
+        ends = ltb-false _ _ (five .0);
+      })
 
-  good-budget : (at b : ℕ) → at + 4 ≤ length file → budgetAt file at ≡ budget.Of b → GoodBudget file at b (budgetIn file at)
-  unfolding budgetAt
-  good-budget at b inside h = budget-case at b inside (eqb (cellAt file at) 0) refl h
+module _ (file : List ℕ) (bytes : Bytes file) (parts : Parts) (good : GoodFile file parts) where
+  within : (s : Section) (at : ℕ) (part : Part) → WholeAt file s at part → Within s (valuesIn file s part)
+  within s at part h =
+      let count : length (valuesIn file s part) ≡ part .count = length-row-at (limits s .width) (part .count) file (part .from) in
+      let enough : limits s .fewest ≤ part .count = h .enough in
+      let fit : part .count ≤ limits s .most = h .fit in
+      record { enough = omega arith; fit = omega arith; in-width = row-below (limits s .width) (part .count) file (part .from) bytes }
 
-pub good-file : (file : List ℕ) (n k b : ℕ) → judgedOf file ≡ judged.Good n k b → GoodFile file n k b
-unfolding judgedOf afterMemory afterCells
-good-file file n k b h =
-    let n₀ = cellAt file 0 in
-    let k₀ = cellAt file (n₀ + 4) in
-    let one = file-passed (ltb (length file) 4) _ n k b h in
-    let two = file-passed (ltb n₀ 1) _ n k b (one .1) in
-    let three = file-passed (ltb mostMemory n₀) _ n k b (two .1) in
-    let four = file-passed (ltb (length file) (n₀ + 8)) _ n k b (three .1) in
-    let five = file-passed (ltb mostCells k₀) _ n k b (four .1) in
-    let six = file-passed (ltb (length file) (n₀ + 4 * k₀ + 8 + 4)) _ n k b (five .1) in
-    let last = with-passed n₀ k₀ (budgetAt file (n₀ + 4 * k₀ + 8)) n k b (six .1) in
-    let e : n₀ ≡ n = last .0 in
-    let f : k₀ ≡ k = last .1 in
-    let g : cellAt file (n₀ + 4) ≡ cellAt file (n + 4) = ap (λ (x : ℕ). cellAt file (x + 4)) e in
-    let low : 1 ≤ n₀ = ltb-false _ _ (two .0) in
-    let high : n₀ ≤ mostMemory = ltb-false _ _ (three .0) in
-    let few : k₀ ≤ mostCells = ltb-false _ _ (five .0) in
-    let room : n₀ + 4 * k₀ + 8 + 4 ≤ length file = ltb-false _ _ (six .0) in
-    let at : n₀ + 4 * k₀ + 8 ≡ n + 4 * k + 8 = omega arith in
-    record {
-      bytes-are = e;
-      some-bytes = omega arith;
-      bytes-fit = omega arith;
-      cells-are = sym g ∙ f;
-      cells-fit = omega arith;
-      inside = omega arith;
-      budget-is = ap (budgetAt file) (sym at) ∙ last .2;
-    }
-
-module _ (file : List ℕ) (bytes : Bytes file) (n k b : ℕ) (good : GoodFile file n k b) where
-  pub budget-good : GoodBudget file (n + 4 * k + 8) b (budgetIn file (n + 4 * k + 8))
-  budget-good = good-budget file bytes (n + 4 * k + 8) b (good .inside) (good .budget-is)
-
-  length-memory : length (take n (drop 4 file)) ≡ n
-  length-memory =
-      let long : length (drop 4 file) ≡ length file - 4 = length-drop 4 file in
-      length-take-le n (drop 4 file) (omega (arith, good .inside))
-
-  pub image-allowed : Allowed (imageIn file n k)
+  pub image-allowed : Allowed (imageIn file parts)
   unfolding imageIn
   image-allowed =
-      let m : length (take n (drop 4 file)) ≡ n = length-memory in
-      let c : length (cellsAt file (n + 8) k) ≡ k = length-cells file (n + 8) k in
       record {
-        some-memory = omega (arith, good .some-bytes);
-        memory-fits = omega (arith, good .bytes-fit);
-        cells-fit = omega (arith, good .cells-fit);
-        cells-are = cells-below file (n + 8) k bytes;
-        budget-fits = budget-good .within;
+        memory-within = within Memory 0 (parts .memory) (good .memory-whole);
+        cells-within = within Cells (parts .memory .to) (parts .cells) (good .cells-whole);
+        budget-within = within Budget (parts .cells .to) (parts .budget) (good .budget-whole);
+        budget-low = good .budget-low;
       }
 
-  pub image-spells : spelled (imageIn file n k) ≡ file
-  unfolding imageIn spelled byteSection cellSection
+  pub image-spells : spelled (imageIn file parts) ≡ file
+  unfolding imageIn spelled
   image-spells =
-      let in-file : n + 4 * k + 8 + 4 ≤ length file = good .inside in
-      let mem = take n (drop 4 file) in
-      let cs = cellsAt file (n + 8) k in
-      let last = cellSection (budgetCells (budgetIn file (n + 4 * k + 8))) in
-      let e₁ : n + 8 + 4 * k ≡ n + 4 * k + 8 = omega arith in
-      let e₂ : n + 4 + 4 ≡ n + 8 = omega arith in
-      let e₃ : 4 + n ≡ n + 4 = omega arith in
-      let three : numbers cs ++ last ≡ drop (n + 8) file =
-      followed file (n + 8) (4 * k) (n + 4 * k + 8) (numbers cs) last e₁ (cells-spelled file (n + 8) k bytes (omega arith)) (budget-good .spells) in
-      let two : (number (length cs) ++ numbers cs) ++ last ≡ drop (n + 4) file =
-      append-assoc (number (length cs)) (numbers cs) last
-      ∙ cell-section file bytes (n + 4) (length cs) (omega arith) (length-cells file (n + 8) k ∙ sym (good .cells-are)) (numbers cs ++ last)
-      (three ∙ ap (λ (m : ℕ). drop m file) (sym e₂)) in
-      let one : mem ++ ((number (length cs) ++ numbers cs) ++ last) ≡ drop 4 file =
-      followed file 4 n (n + 4) mem ((number (length cs) ++ numbers cs) ++ last) e₃ refl two in
-      append-assoc (number (length mem)) mem ((number (length cs) ++ numbers cs) ++ last)
-      ∙ cell-section file bytes 0 (length mem) (omega arith) (length-memory ∙ sym (good .bytes-are)) (mem ++ ((number (length cs) ++ numbers cs) ++ last)) one
+      let first = sectionOf Memory (valuesIn file Memory (parts .memory)) in
+      let second = sectionOf Cells (valuesIn file Cells (parts .cells)) in
+      let third = sectionOf Budget (valuesIn file Budget (parts .budget)) in
+      let rest : drop (parts .budget .to) file ≡ [] = drop-of-length-le file {i = parts .budget .to} (good .ends) in
+      let three : third ≡ drop (parts .cells .to) file =
+      sym (append-nil third) ∙ ap (λ (l : List ℕ). third ++ l) (sym rest) ∙ section-spelled file Budget (parts .cells .to) bytes (parts .budget) (good .budget-whole) in
+      let two : second ++ third ≡ drop (parts .memory .to) file =
+      ap (λ (l : List ℕ). second ++ l) three ∙ section-spelled file Cells (parts .memory .to) bytes (parts .cells) (good .cells-whole) in
+      ap (λ (l : List ℕ). first ++ l) two ∙ section-spelled file Memory 0 bytes (parts .memory) (good .memory-whole)

@@ -3,20 +3,21 @@ use mathlib.Core.Path.{_≡_, refl, ap, _∙_}
 use Prim.Native.Nat.{ℕ, _≤_, _-_}
 use native.Mathlib.Omega.{arith}
 use borrow.Author.Needs.{needs}
-use Rattle.image.specs.Judging.{cellsAt}
-use Rattle.image.specs.Loading.{padded}
-use Rattle.image.proofs.Placing.{cell-placed}
+use Rattle.links.specs.Depths.{cellsDepth}
+use Rattle.numbers.specs.Rows.{rowAt}
+use Rattle.plain.specs.Zeros.{padded}
+use Rattle.image.proofs.Placing.{value-placed}
 use Rattle.image.proofs.place.cells.Statement.{statement}
 use Rattle.image.proofs.place.cells.Tie as tie
 
 abbrev Inv-loop : tie.InvT-loop
-Inv-loop file from count cells₀ i₀ cells i = (i ≤ count) × (cells ≡ padded 64 (cellsAt file from i))
+Inv-loop file from count cells₀ i₀ cells i = (i ≤ count) × (cells ≡ padded cellsDepth (rowAt 4 i file from))
 
 abbrev μ-loop : tie.MeasureT-loop
 μ-loop file from count cells₀ i₀ cells i = count - i
 
 loop-holds : tie.Need-loop-holds Inv-loop μ-loop
-unfolding padded cellsAt
+unfolding padded rowAt
 loop-holds c = (search needs, refl)
 
 mul-cell-at : tie.Need-mul-cell-at Inv-loop μ-loop
@@ -45,12 +46,12 @@ loop-again c =
     let start = c .before .before .before .before in
     let here = c .before .before .loop in (
       omega arith,
-      cell-placed (start .args .file .now) (here .cells) (start .args .from) (here .i) (c .cell-at .result) (omega arith) (c .cell-at .ensures)
+      value-placed 4 cellsDepth (start .args .file .now) (here .cells) (start .args .part .from) (here .i) (c .cell-at .result) (omega arith) (c .cell-at .ensures)
           (here .inv .1),
     )
 
 returns : tie.Need-returns Inv-loop μ-loop
-returns c = c .before .loop .inv .1 ∙ ap (λ (n : ℕ). padded 64 (cellsAt (c .before .before .before .args .file .now) (c .before .before .before .args .from) n)) (omega arith)
+returns c = c .before .loop .inv .1 ∙ ap (λ (n : ℕ). padded cellsDepth (rowAt 4 n (c .before .before .before .args .file .now) (c .before .before .before .args .part .from))) (omega arith)
 
 pub cells-spec : {M : Type 1} → statement M
 cells-spec =

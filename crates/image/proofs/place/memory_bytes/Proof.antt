@@ -8,26 +8,27 @@ use native.Mathlib.Omega.{arith}
 use lib.ListN.{length, take, drop, getD, set, replicate, length-set, length-drop, take-append-drop}
 use lib.Seq.{getD-drop, paste, paste-zero, paste-suc}
 use borrow.Author.Needs.{needs}
-use Rattle.image.proofs.Placing.{cleared, filled}
-use Rattle.image.proofs.place.memory.Statement.{statement}
-use Rattle.image.proofs.place.memory.Tie as tie
+use Rattle.plain.specs.Zeros.{padded}
+use Rattle.image.proofs.Placing.{cleared, filled, bytes-read}
+use Rattle.image.proofs.place.memory_bytes.Statement.{statement}
+use Rattle.image.proofs.place.memory_bytes.Tie as tie
 
 abbrev Inv-loop : tie.InvT-loop
-Inv-loop file bytes memory₀ i₀ memory i =
-    (i ≤ bytes) × (memory ≡ paste memory₀ 0 (drop 4 file) i) × (length memory ≡ length memory₀)
+Inv-loop file memory₀ from count i₀ memory i =
+    (i ≤ count) × (memory ≡ paste memory₀ 0 (drop from file) i) × (length memory ≡ length memory₀)
 
 abbrev μ-loop : tie.MeasureT-loop
-μ-loop file bytes memory₀ i₀ memory i = bytes - i
+μ-loop file memory₀ from count i₀ memory i = count - i
 
 abbrev Inv-loop2 : tie.InvT-loop2
-Inv-loop2 file bytes memory₀ i₀ memory i =
+Inv-loop2 file memory₀ from count i₀ memory i =
     (i₀ ≤ i) × (i ≤ length memory₀) × (memory ≡ take i₀ memory₀ ++ (replicate (i - i₀) 0 ++ drop i memory₀)) × (length memory ≡ length memory₀)
 
 abbrev μ-loop2 : tie.MeasureT-loop2
-μ-loop2 file bytes memory₀ i₀ memory i = length memory₀ - i
+μ-loop2 file memory₀ from count i₀ memory i = length memory₀ - i
 
 loop-holds : tie.Need-loop-holds Inv-loop μ-loop Inv-loop2 μ-loop2
-loop-holds c = (search needs, paste-zero (c .args .memory .now) 0 (drop 4 (c .args .file .now)), refl)
+loop-holds c = (search needs, paste-zero (c .args .memory .now) 0 (drop (c .args .part .from) (c .args .file .now)), refl)
 
 add-memory : tie.Need-add-memory Inv-loop μ-loop Inv-loop2 μ-loop2
 add-memory c = search needs
@@ -49,16 +50,17 @@ loop-again c =
     let start = c .before .before .before in
     let here = c .before .before .loop in
     let file = start .args .file .now in
+    let from = start .args .part .from in
     let before = start .args .memory .now in
-    let byte = getD file (4 + here .i) 0 in
-    let long : length (drop 4 file) ≡ length file - 4 = length-drop 4 file in
+    let byte = getD file (from + here .i) 0 in
+    let long : length (drop from file) ≡ length file - from = length-drop from file in
     let at : here .i ≡ 0 + here .i = omega arith in (
       omega arith,
       ap (λ (l : List ℕ). set l (here .i) byte) (here .inv .1)
-          ∙ ap (λ (v : ℕ). set (paste before 0 (drop 4 file) (here .i)) (here .i) v) (sym (getD-drop 4 file (here .i) 0))
-          ∙ ap (λ (k : ℕ). set (paste before 0 (drop 4 file) (here .i)) k (getD (drop 4 file) (here .i) 0)) at
-          ∙ paste-suc before 0 (drop 4 file) (here .i) 0 (omega arith) (omega arith)
-          ∙ ap (paste before 0 (drop 4 file)) (sym (add-one (here .i))),
+          ∙ ap (λ (v : ℕ). set (paste before 0 (drop from file) (here .i)) (here .i) v) (sym (getD-drop from file (here .i) 0))
+          ∙ ap (λ (k : ℕ). set (paste before 0 (drop from file) (here .i)) k (getD (drop from file) (here .i) 0)) at
+          ∙ paste-suc before 0 (drop from file) (here .i) 0 (omega arith) (omega arith)
+          ∙ ap (paste before 0 (drop from file)) (sym (add-one (here .i))),
       length-set (here .memory) (here .i) byte ∙ here .inv .2,
     )
 
@@ -101,13 +103,17 @@ returns c =
     let start = c .before .before .before .before in
     let one = c .before .before .before .loop in
     let two = c .before .loop2 in
-    let long : length (drop 4 (start .args .file .now)) ≡ length (start .args .file .now) - 4 = length-drop 4 (start .args .file .now) in
-    let copied = one .inv .1 ∙ ap (λ (k : ℕ). take (one .i) (drop 4 (start .args .file .now)) ++ drop k (start .args .memory .now)) (zero-add (one .i)) in
-    filled (drop 4 (start .args .file .now)) (start .args .memory .now) (one .memory) (two .memory) (start .args .bytes) (one .i) (two .i)
+    let file = start .args .file .now in
+    let from = start .args .part .from in
+    let count = start .args .part .count in
+    let long : length (drop from file) ≡ length file - from = length-drop from file in
+    let copied = one .inv .1 ∙ ap (λ (k : ℕ). take (one .i) (drop from file) ++ drop k (start .args .memory .now)) (zero-add (one .i)) in
+    filled (drop from file) (start .args .memory .now) (one .memory) (two .memory) count (one .i) (two .i)
     (omega arith) (omega arith) (omega arith) copied (one .inv .2) (omega arith) (two .inv .2)
+    ∙ ap (padded (length (start .args .memory .now))) (sym (bytes-read file from count (omega arith)))
 
-pub memory-spec : {M : Type 1} → statement M
-memory-spec =
+pub memory-bytes-spec : {M : Type 1} → statement M
+memory-bytes-spec =
     tie.close
     (tie.spec
     Inv-loop

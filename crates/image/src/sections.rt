@@ -1,0 +1,103 @@
+// A section of a file: a count of 4 bytes, then so many elements of a width, within limits.
+use crate::Fault;
+use crate::Limits;
+use crate::Met;
+use crate::Part;
+use crate::Section;
+use machine::Machine;
+use numbers::Found;
+ghost use mathlib.Core.Path.{_≡_};
+ghost use Prim.Native.Nat.{_+_, _*_, _≤_};
+ghost use lib.ListN.{length};
+ghost use Rattle.numbers.specs.Bytes.{numberAt};
+ghost use Rattle.image.specs.Format.{limits, budgetOf, longestFile};
+ghost use Rattle.image.specs.Judging.{partAt, valuesIn};
+
+// The budget of a file that gives none.
+const DEFAULT_BUDGET: u32 = 10000;
+
+// A count or a cell has 4 bytes.
+const NUMBER: usize = 4;
+
+// The most bytes that a good file has: each section's count and its most elements. A buffer of one byte more holds no file cut to a good one.
+pub const LONGEST_FILE: usize = NUMBER
+    + Machine::MEMORY
+    + NUMBER
+    + NUMBER * Machine::CELLS
+    + NUMBER
+    + NUMBER;
+
+// The same as a number that is held to its definition: an array's length can be no call.
+pub fn longest_file() -> usize
+    ensures { λ r. ⌜ r ≡ longestFile ⌝ }
+{
+    LONGEST_FILE
+}
+
+// One line a section.
+pub(crate) fn limits_of(section: Section) -> Limits
+    ensures { λ r. ⌜ r ≡ limits section ⌝ }
+{
+    match section {
+        Section::Memory => Limits {
+            width: 1,
+            fewest: 1,
+            most: Machine::MEMORY,
+        },
+        Section::Cells => Limits {
+            width: NUMBER,
+            fewest: 0,
+            most: Machine::CELLS,
+        },
+        Section::Budget => Limits {
+            width: NUMBER,
+            fewest: 0,
+            most: 1,
+        },
+    }
+}
+
+// A count is tested before a product is formed with it, so that none can wrap.
+pub(crate) fn part_at(file: &[u8], section: Section, at: usize) -> Met
+    ensures { λ r. ⌜ r ≡ partAt (now (file .entry)) section at ⌝ }
+{
+    let Found::Number(number) = numbers::read_four(file, at) else {
+        return Met::Bad(Fault::Cut(section, at));
+    };
+    let count = number as usize;
+    let limits = limits_of(section);
+    if count < limits.fewest {
+        return Met::Bad(Fault::Count(section, at));
+    }
+    if limits.most < count {
+        return Met::Bad(Fault::Count(section, at));
+    }
+    let from = at + NUMBER;
+    let to = from + limits.width * count;
+    if file.len() < to {
+        return Met::Bad(Fault::Cut(section, at));
+    }
+    Met::Whole(Part { from, count, to })
+}
+
+// The number at a place that is known to lie inside.
+pub(crate) fn cell_at(file: &[u8], at: usize) -> u32
+    requires { ⌜ at + 4 ≤ length (now file) ⌝ }
+    ensures { λ r. ⌜ r ≡ numberAt 4 (now (file .entry)) at ⌝ }
+{
+    let Found::Number(cell) = numbers::read_four(file, at) else {
+        return 0;
+    };
+    cell
+}
+
+// The budget that a file comes to.
+pub(crate) fn budget_in(file: &[u8], part: Part) -> u32
+    requires { ⌜ part .from + 4 * part .count ≤ length (now file) ⌝ }
+    ensures { λ r. ⌜ r ≡ budgetOf (valuesIn (now (file .entry)) Section.Budget part) ⌝ }
+{
+    if part.count == 0 {
+        return DEFAULT_BUDGET;
+    }
+    cell_at(file, part.from)
+}

@@ -1,0 +1,24 @@
+-- What a machine and a memory that exist can hold: cells and addresses of 32 bits, pointers and their copies of 64, bytes of 8.
+use mathlib.Core.List.{List}
+use Prim.Native.Nat.{ℕ, _^_, _<_}
+use Rattle.plain.specs.All.{All}
+use Rattle.links.specs.Fits.{Cell, Pointer, LinksFit}
+use Rattle.machine.specs.State.{Whole}
+use Rattle.machine.specs.declared.Machine.{Machine}
+
+pub record Fits (m : Machine) : Type 0 where
+  pub cells-fit : All Cell (m .cells)
+  pub p-fits : Pointer (m .p)
+  pub links-fit : LinksFit (m .links)
+  pub counter-fits : Cell (m .counter)
+  pub flag-fits : Cell (m .flag)
+
+-- every byte of a memory is one
+abbrev pub AllBytes : List ℕ → Type 0
+AllBytes mem = All (λ b. b < 2 ^ 8) mem
+
+-- a machine and a memory that exist
+pub record Exist (mem : List ℕ) (m : Machine) : Type 0 where
+  pub whole : Whole m
+  pub fits : Fits m
+  pub bytes : AllBytes mem

@@ -1,0 +1,266 @@
+-- A step that is carried out keeps what a machine that exists can hold, where every byte of the memory is one; and leaves such a memory.
+use mathlib.Core.Path.{_≡_, refl, sym, subst, _∙_}
+use mathlib.Core.Bool.{Bool, true, false}
+use mathlib.Core.List.{List, [], _∷_}
+use Prim.Native.Nat.{ℕ, zero, suc, _+_, _-_, _*_, _^_, _<_, _≤_}
+use native.Mathlib.Nat.{lt-of-lt-of-le, pow-le-pow-right}
+use native.Mathlib.Omega.{arith}
+use lib.Dec.{T, eqb, leb, leb→le}
+use lib.ListN.{getD, length-set}
+use Rattle.plain.specs.Choice.{pick}
+use Rattle.plain.specs.All.{All}
+use Rattle.plain.specs.Laws.All.{all-read, all-set, all-sets}
+use Rattle.numbers.specs.Bytes.{bytesOf}
+use Rattle.numbers.specs.Laws.Bytes.{Bytes, number-below, bytes-first}
+use Rattle.links.specs.Fits.{Cell, LinksFit}
+use Rattle.links.specs.Laws.Carries.{ActFits, frame-in-view, level-in-view, act-fits}
+use Rattle.word.specs.Dispatch.{twoCellsOf}
+use Rattle.word.specs.Laws.Fits.{CellsFit, one-fits, two-fit}
+use Rattle.word.specs.declared.Outcome.{Outcome}
+use Rattle.word.specs.declared.Outcome.the-variants.{Single, Double, DivisorZero}
+use Rattle.machine.specs.Codes.{Shuffle, NOP, DROP, DUP, SWAP, OVER, NIP, ROT, PSP-AT, ZERO, DUP-NONZERO, Jump, JMP, BEQ, BRA, Link, >R, R-AT, R>, CATCH, RESETSP, THROW, JSL, JSR, EXIT, Op, SHUFFLE, JUMP, LINK, ONE, TWO, FETCH, STORE, LITERAL, Operand, none, number, offset, table, entryAt}
+use Rattle.machine.specs.State.{Whole}
+use Rattle.machine.specs.Memory.{size, placeOf}
+use Rattle.machine.specs.Fetch.{Instruction, operandAt, instructionAt}
+use Rattle.machine.specs.Rows.{Row, top, second, topReturn, localsInView, cellsInView, cells, throwRow, rowOf, linkRow, shuffled, target, twoRow, fetchRow, storeRow}
+use Rattle.machine.specs.Step.{Stepped, refused, done, stepOf, rowAt}
+use Rattle.machine.specs.Run.{After, ended, runFrom, acceptable, runOf}
+use Rattle.machine.specs.Fits.{Fits, AllBytes, Exist}
+use Rattle.machine.specs.Laws.Tables.{Everywhere, at-code}
+use Rattle.machine.specs.Laws.Passed.{step-done}
+use Rattle.machine.specs.Laws.Kept.{Formed, allowed-at, step-kept}
+use Rattle.machine.specs.Laws.Accepted.{taken}
+use Rattle.machine.specs.declared.Machine.{Machine}
+use Rattle.machine.specs.declared.Width.{Width}
+use Rattle.machine.specs.declared.Width.the-variants.{Byte, Word, Long}
+use Rattle.machine.specs.declared.Place.{Place}
+use Rattle.machine.specs.declared.Place.the-variants.{Memory, Local, Cell as CellPlace, Nowhere}
+
+-- what a run leaves exists
+abbrev pub ExistAfter : After → Type 0
+ExistAfter a = Exist (a .memory) (a .ran .machine)
+
+-- what a row brings
+pub record RowFits (row : Row) : Type 0 where
+  pub puts-fit : All Cell (row .puts)
+  pub goes-fits : Cell (row .goes)
+  pub link-fits : ActFits (row .link)
+  pub memory-fits : AllBytes (row .memory)
+
+byte-list : (n v : ℕ) → AllBytes (bytesOf n v)
+byte-list zero v = tt
+byte-list (suc n) v = subst AllBytes (sym (bytes-first n v)) (omega arith, byte-list n v)
+
+bytes-of : (l : List ℕ) → AllBytes l → Bytes l
+bytes-of l h i = all-read (λ b. b < 2 ^ 8) l h i 0 (omega arith)
+
+width-below : (w : Width) (n : ℕ) → n < 2 ^ (8 * size w) → Cell n
+width-below Byte n h = omega arith
+width-below Word n h = omega arith
+width-below Long n h = omega arith
+
+module _ (i : Instruction) (mem : List ℕ) (m : Machine) (operand-fits : Cell (i .operand)) (next-fits : Cell (i .next))
+    (bytes : AllBytes mem) (whole : Whole m) (formed : Formed m) (h : Fits m) where
+  cell-at : (n : ℕ) → Cell (getD (m .cells) n 0)
+  cell-at n = all-read Cell (m .cells) (h .cells-fit) n 0 (omega arith)
+
+  picked : (b : Bool) (x y : ℕ) → Cell x → Cell y → Cell (pick b x y)
+  picked true x y hx hy = hx
+  picked false x y hx hy = hy
+
+  picked-all : (b : Bool) (xs ys : List ℕ) → All Cell xs → All Cell ys → All Cell (pick b xs ys)
+  picked-all true xs ys hx hy = hx
+  picked-all false xs ys hx hy = hy
+
+  shuffled-fit : (o : Shuffle) → All Cell (shuffled i mem m o)
+  shuffled-fit NOP = tt
+  shuffled-fit DROP = tt
+  shuffled-fit DUP = (cell-at _, (cell-at _, tt))
+  shuffled-fit SWAP = (cell-at _, (cell-at _, tt))
+  shuffled-fit OVER = (cell-at _, (cell-at _, (cell-at _, tt)))
+  shuffled-fit NIP = (cell-at _, tt)
+  shuffled-fit ROT = (cell-at _, (cell-at _, (cell-at _, tt)))
+  shuffled-fit PSP-AT = (omega (arith, formed .p-within), tt)
+  shuffled-fit ZERO = (omega arith, tt)
+  shuffled-fit DUP-NONZERO = picked-all (eqb (top m) 0) (top m ∷ []) (top m ∷ top m ∷ []) (cell-at _, tt) (cell-at _, (cell-at _, tt))
+
+  target-fits : (o : Jump) → Cell (target i mem m o)
+  target-fits JMP = cell-at _
+  target-fits BEQ = picked (eqb (top m) 0) (i .operand) (i .next) operand-fits next-fits
+  target-fits BRA = operand-fits
+
+  stays-fit : (puts : List ℕ) → All Cell puts → RowFits (cells i mem m puts)
+  stays-fit puts p = record { puts-fit = p; goes-fits = next-fits; link-fits = tt; memory-fits = bytes }
+
+  return-fits : Cell (topReturn m)
+  return-fits = all-read Cell (m .links .returns) (h .links-fit .returns-fit) (m .links .r - 1) 0 (omega arith)
+
+  throw-fits : (b : Bool) → RowFits (pick b (cells i mem m []) (throwRow i mem m))
+  throw-fits true = stays-fit [] tt
+  throw-fits false =
+      record {
+        puts-fit = (cell-at _, tt);
+        goes-fits = level-in-view (m .links) (whole .shaped) (formed .sound) (h .links-fit) .address-fits;
+        link-fits = tt;
+        memory-fits = bytes;
+      }
+
+  link-row-fits : (o : Link) → RowFits (linkRow i mem m o)
+  link-row-fits >R = record { puts-fit = tt; goes-fits = next-fits; link-fits = cell-at _; memory-fits = bytes }
+  link-row-fits R-AT = record { puts-fit = (return-fits, tt); goes-fits = next-fits; link-fits = tt; memory-fits = bytes }
+  link-row-fits R> = record { puts-fit = (return-fits, tt); goes-fits = next-fits; link-fits = tt; memory-fits = bytes }
+  link-row-fits CATCH = record { puts-fit = tt; goes-fits = cell-at _; link-fits = next-fits; memory-fits = bytes }
+  link-row-fits RESETSP = record { puts-fit = tt; goes-fits = next-fits; link-fits = tt; memory-fits = bytes }
+  link-row-fits THROW = throw-fits (eqb (top m) 0)
+  link-row-fits JSL = record { puts-fit = tt; goes-fits = operand-fits; link-fits = next-fits; memory-fits = bytes }
+  link-row-fits JSR = record { puts-fit = tt; goes-fits = cell-at _; link-fits = next-fits; memory-fits = bytes }
+  link-row-fits EXIT =
+      record {
+        puts-fit = tt;
+        goes-fits = frame-in-view (m .links) (whole .shaped) (formed .sound) (h .links-fit) .address-fits;
+        link-fits = tt;
+        memory-fits = bytes;
+      }
+
+  two-row-fits : (o : Outcome) → CellsFit o → RowFits (twoRow i mem m o)
+  two-row-fits (Single value flag) f = record { puts-fit = (f, tt); goes-fits = next-fits; link-fits = tt; memory-fits = bytes }
+  two-row-fits (Double lower upper flag) f =
+      record { puts-fit = (f .0, (f .1, tt)); goes-fits = next-fits; link-fits = tt; memory-fits = bytes }
+  two-row-fits DivisorZero f = record { puts-fit = tt; goes-fits = next-fits; link-fits = tt; memory-fits = bytes }
+
+  -- the cells in view
+  locals-fit : All Cell (localsInView m)
+  locals-fit = frame-in-view (m .links) (whole .shaped) (formed .sound) (h .links-fit) .locals-fit
+
+  cells-fit : All Cell (cellsInView m)
+  cells-fit = level-in-view (m .links) (whole .shaped) (formed .sound) (h .links-fit) .cells-fit
+
+  fetch-row-fits : (w : Width) (place : Place) → RowFits (fetchRow i mem m w place)
+  fetch-row-fits w (Memory a) = stays-fit _ (width-below w _ (number-below (size w) mem a (bytes-of mem bytes)), tt)
+  fetch-row-fits w (Local k) = stays-fit _ (all-read Cell (localsInView m) locals-fit k 0 (omega arith), tt)
+  fetch-row-fits w (CellPlace k) = stays-fit _ (all-read Cell (cellsInView m) cells-fit k 0 (omega arith), tt)
+  fetch-row-fits w Nowhere = record { puts-fit = tt; goes-fits = next-fits; link-fits = tt; memory-fits = bytes }
+
+  store-row-fits : (w : Width) (place : Place) → RowFits (storeRow i mem m w place)
+  store-row-fits w (Memory a) =
+      record {
+        puts-fit = tt;
+        goes-fits = next-fits;
+        link-fits = tt;
+        memory-fits = all-sets (λ b. b < 2 ^ 8) mem bytes a (bytesOf (size w) (second m)) (byte-list (size w) (second m));
+      }
+  store-row-fits w (Local k) =
+      record {
+        puts-fit = tt;
+        goes-fits = next-fits;
+        link-fits = (
+          length-set (localsInView m) k (second m) ∙ frame-in-view (m .links) (whole .shaped) (formed .sound) (h .links-fit) .locals-long,
+          all-set Cell (localsInView m) locals-fit k (second m) (cell-at _),
+          level-in-view (m .links) (whole .shaped) (formed .sound) (h .links-fit) .cells-long,
+          cells-fit,
+        );
+        memory-fits = bytes;
+      }
+  store-row-fits w (CellPlace k) =
+      record {
+        puts-fit = tt;
+        goes-fits = next-fits;
+        link-fits = (
+          frame-in-view (m .links) (whole .shaped) (formed .sound) (h .links-fit) .locals-long,
+          locals-fit,
+          length-set (cellsInView m) k (second m) ∙ level-in-view (m .links) (whole .shaped) (formed .sound) (h .links-fit) .cells-long,
+          all-set Cell (cellsInView m) cells-fit k (second m) (cell-at _),
+        );
+        memory-fits = bytes;
+      }
+  store-row-fits w Nowhere = record { puts-fit = tt; goes-fits = next-fits; link-fits = tt; memory-fits = bytes }
+
+  row-fits : (op : Op) → RowFits (rowOf i mem m op)
+  unfolding rowOf
+  row-fits (SHUFFLE o) = stays-fit _ (shuffled-fit o)
+  row-fits (JUMP o) = record { puts-fit = tt; goes-fits = target-fits o; link-fits = tt; memory-fits = bytes }
+  row-fits (LINK o) = link-row-fits o
+  row-fits (ONE o) =
+      record { puts-fit = (one-fits o (top m) (m .flag) (cell-at _), tt); goes-fits = next-fits; link-fits = tt; memory-fits = bytes }
+  row-fits (TWO o) = two-row-fits (twoCellsOf o (second m) (top m) (m .flag)) (two-fit o (second m) (top m) (m .flag) (cell-at _) (cell-at _))
+  row-fits (FETCH w) = fetch-row-fits w (placeOf w (top m))
+  row-fits (STORE w) = store-row-fits w (placeOf w (top m))
+  row-fits LITERAL = stays-fit _ (operand-fits, tt)
+
+-- an operand has at most 4 bytes
+abbrev smallOperand : Operand → Bool
+smallOperand none = true
+smallOperand (number n) = leb n 4
+smallOperand offset = true
+
+operands-small : Everywhere (λ code e. smallOperand (e .operand))
+unfolding table
+operands-small = record { in-table = tt; past = λ code. tt; branches = λ code. (tt, tt) }
+
+operand-below : (o : Operand) (mem : List ℕ) (a : ℕ) → T (smallOperand o) → Bytes mem → Cell (operandAt o mem a)
+operand-below none mem a t bytes = omega arith
+operand-below (number n) mem a t bytes =
+    let short : n ≤ 4 = leb→le n 4 t in
+    let within : 8 * n ≤ 32 = omega arith in
+    let some : 0 < 2 = omega arith in
+    lt-of-lt-of-le (number-below n mem (a + 1) bytes) (pow-le-pow-right some within)
+operand-below offset mem a t bytes = omega arith
+
+-- what a step leaves exists
+pub step-carries : (mem : List ℕ) (m : Machine) (mem′ : List ℕ) (m′ : Machine) (k : ℕ) → Formed m → Exist mem m →
+    stepOf mem m ≡ done mem′ m′ k → Exist mem′ m′
+unfolding instructionAt
+step-carries mem m mem′ m′ k formed x e =
+    let d = step-done mem m mem′ m′ k e in
+    let g = step-kept mem m mem′ m′ k (x .whole) formed e in
+    let h = x .fits in
+    let i = instructionAt mem (m .counter) in
+    let operand =
+    operand-below (entryAt (i .code) .operand) mem (m .counter)
+    (at-code (λ code e. smallOperand (e .operand)) operands-small (i .code)) (bytes-of mem (x .bytes)) in
+    let next : Cell (i .next) = omega arith in
+    let row = row-fits i mem m operand next (x .bytes) (x .whole) formed h (entryAt (i .code) .op) in
+    let links-fit =
+    act-fits (m .links) (x .whole .shaped) (formed .sound) (h .links-fit) (rowAt mem m .link) (row .link-fits) (allowed-at mem m mem′ m′ k formed d) in
+    record {
+      whole = g .whole;
+      fits =
+          record {
+            cells-fit =
+                subst (λ (y : Machine). All Cell (y .cells)) (sym (d .machine))
+                (all-sets Cell (m .cells) (h .cells-fit) (rowAt mem m .keeps) (rowAt mem m .puts) (row .puts-fit));
+            p-fits = omega (arith, g .formed .p-within);
+            links-fit = subst (λ (y : Machine). LinksFit (y .links)) (sym (d .machine)) links-fit;
+            counter-fits = subst (λ (y : Machine). Cell (y .counter)) (sym (d .machine)) (row .goes-fits);
+            flag-fits = omega (arith, g .formed .flag-within);
+          };
+      bytes = subst AllBytes (sym (d .memory)) (row .memory-fits);
+    }
+
+-- so does what a run leaves, whatever its answer
+step-on : (s : Stepped) (left n c : ℕ) (mem : List ℕ) (m : Machine) → stepOf mem m ≡ s → Formed m → Exist mem m →
+    ((mem′ : List ℕ) (m′ : Machine) (n′ c′ : ℕ) → Formed m′ → Exist mem′ m′ → ExistAfter (runFrom left mem′ m′ n′ c′)) →
+    ExistAfter
+    (elim s as (λ x. After) [
+      | refused answer ↦ ended answer mem m n c
+      | done mem′ m′ cost ↦ runFrom left mem′ m′ (suc n) (c + cost)
+    ])
+step-on (refused answer) left n c mem m e formed x next = x
+step-on (done mem′ m′ cost) left n c mem m e formed x next =
+    next mem′ m′ (suc n) (c + cost) (step-kept mem m mem′ m′ cost (x .whole) formed e .formed) (step-carries mem m mem′ m′ cost formed x e)
+
+rest-carries : (left : ℕ) (mem : List ℕ) (m : Machine) (n c : ℕ) → Formed m → Exist mem m → ExistAfter (runFrom left mem m n c)
+unfolding runFrom
+rest-carries zero mem m n c formed x = x
+rest-carries (suc left) mem m n c formed x =
+    step-on (stepOf mem m) left n c mem m refl formed x (λ mem′ m′ n′ c′. rest-carries left mem′ m′ n′ c′)
+
+pub run-carries : (mem : List ℕ) (m : Machine) (budget : ℕ) → Exist mem m → ExistAfter (runOf mem m budget)
+unfolding runOf
+run-carries mem m budget x = go (acceptable mem m budget) refl
+  where
+    go : (b : Bool) → acceptable mem m budget ≡ b →
+        ExistAfter (elim b as (λ y. After) [ true ↦ runFrom budget mem m 0 0 | false ↦ ended 2 mem m 0 0 ])
+    go true e =
+        rest-carries budget mem m 0 0 (taken mem m budget e .formed) x
+    go false e = x

@@ -1,0 +1,33 @@
+-- What holds of each element of a list holds of what is read from it, and is kept by a store of something that it holds of.
+use mathlib.Core.List.{List, [], _∷_}
+use Prim.Native.Nat.{ℕ, zero, suc, _<_}
+use native.Mathlib.Nat.{le-of-suc-le-suc, not-suc-le-zero}
+use lib.ListN.{getD, set, length, replicate}
+use lib.Seq.{sets}
+use Rattle.plain.specs.All.{All}
+
+module _ {A : Type 0} (P : A → Type 0) where
+  -- of an element within the list
+  pub all-at : (l : List A) → All P l → (i : ℕ) (d : A) → i < length l → P (getD l i d)
+  all-at [] h i d lt = absurd (not-suc-le-zero lt)
+  all-at (x ∷ xs) h zero d lt = h .0
+  all-at (x ∷ xs) h (suc i) d lt = all-at xs (h .1) i d (le-of-suc-le-suc lt)
+
+  -- of any, where it holds of what a read past the end gives
+  pub all-read : (l : List A) → All P l → (i : ℕ) (d : A) → P d → P (getD l i d)
+  all-read [] h i d p = p
+  all-read (x ∷ xs) h zero d p = h .0
+  all-read (x ∷ xs) h (suc i) d p = all-read xs (h .1) i d p
+
+  pub all-set : (l : List A) → All P l → (i : ℕ) (x : A) → P x → All P (set l i x)
+  all-set [] h i x p = h
+  all-set (y ∷ ys) h zero x p = (p, h .1)
+  all-set (y ∷ ys) h (suc i) x p = (h .0, all-set ys (h .1) i x p)
+
+  pub all-sets : (l : List A) → All P l → (i : ℕ) (xs : List A) → All P xs → All P (sets l i xs)
+  all-sets l h i [] p = h
+  all-sets l h i (x ∷ xs) p = all-sets (set l i x) (all-set l h i x (p .0)) (suc i) xs (p .1)
+
+  pub all-replicate : (n : ℕ) (x : A) → P x → All P (replicate n x)
+  all-replicate zero x p = tt
+  all-replicate (suc n) x p = (p, all-replicate n x p)
