@@ -6,7 +6,7 @@ use mathlib.Core.Path.{_≡_, refl, sym, ap, _∙_, subst}
 use Prim.Native.Nat.{ℕ, _+_}
 use native.Mathlib.Omega.{arith}
 use lib.ListN.{length}
-use Rattle.machine.specs.Fits.{AllBytes}
+use Rattle.machine.specs.Fits.{AllBytes, Exist}
 use Rattle.machine.specs.Laws.Carries.{run-carries}
 use Rattle.machine.specs.Run.{After, ended, runFrom, runOf, acceptable}
 use Rattle.machine.specs.declared.Machine.{Machine}
@@ -42,7 +42,7 @@ called state memory budget result handed m carries long (run n all also fit is k
 pub answered : (state memory : List ℕ) (budget : ℕ) (result : List ℕ) (m : Machine) → Carries state m → AllBytes memory → length result ≡ layout.result .width
     → Hands state memory budget result (handedBack (runOf memory m budget))
 answered state memory budget result m carries bytes long =
-    let exist = record { whole = machine-whole m (carries .fit); fits = machine-exists m (carries .fit); bytes = bytes } in
+    let exist : Exist memory m = record { whole = machine-whole m (carries .fit); fits = machine-exists m (carries .fit); bytes = bytes } in
     let left = run-carries memory m budget exist in
     run m (as-long state m carries) long (carries .fit) (carries .spelled) (machine-carried (runOf memory m budget .ran .machine) (left .whole) (left .fits))
 
