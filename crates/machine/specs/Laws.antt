@@ -10,8 +10,8 @@ pub mod Prices
 pub mod Marks
 -- what every row keeps, kind by kind
 pub mod Told
--- a row leaves the flag as it was, unless its arithmetic moves it
-pub mod Flags
+-- what a row puts is what the table says
+pub mod Puts
 -- the tests let through only actions that the linked stacks allow
 pub mod Granted
 -- a step keeps a well-formed state well formed
@@ -20,9 +20,9 @@ pub mod Kept
 pub mod Accepted
 -- a step is one action on the linked stacks, and an allowed one
 pub mod Acts
--- a step keeps what a machine that exists can hold
-pub mod Carries
 -- readings that document 01 rules out
 pub mod Readings
 -- the starred lines of the bench sheet
 pub mod Starred
+-- a step and a run keep what a machine and a memory that exist can hold
+pub mod Carries
