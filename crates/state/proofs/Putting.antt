@@ -12,7 +12,8 @@ use Rattle.plain.specs.Answer.{gives}
 use Rattle.numbers.specs.Bytes.{bytesOf}
 use Rattle.numbers.specs.Slices.{Wrote, writeAt}
 use Rattle.numbers.specs.Laws.Bytes.{length-bytes}
-use Rattle.state.specs.Parts.{Part, All, each, number, row, Field, widthOf, FieldsFit, fieldBytes, fields}
+use Rattle.plain.specs.All.{All}
+use Rattle.state.specs.Parts.{Part, each, number, row, Field, widthOf, FieldsFit, fieldBytes, fields}
 use Rattle.state.specs.Layout.{cell}
 use Rattle.state.specs.Places.{Put}
 use Rattle.state.specs.Promise.{Gives, filled}

@@ -12,7 +12,8 @@ use Rattle.plain.specs.Answer.{Answer, refuses, gives}
 use Rattle.numbers.specs.Bytes.{numberAt}
 use Rattle.numbers.specs.Slices.{readAt}
 use Rattle.numbers.specs.Laws.Bytes.{Bytes, number-below, spelled-number}
-use Rattle.state.specs.Parts.{Part, All, each, number, row, Field, widthOf, FieldsFit, fieldBytes, fields}
+use Rattle.plain.specs.All.{All}
+use Rattle.state.specs.Parts.{Part, each, number, row, Field, widthOf, FieldsFit, fieldBytes, fields}
 use Rattle.state.specs.Places.{Stands}
 use Rattle.state.specs.Laws.Rows.{each-more, all-more}
 

@@ -6,5 +6,5 @@ pub mod Sound
 pub mod Spelling
 -- no second answer
 pub mod Only
--- what fits has the right lengths
-pub mod Whole
+-- what the bytes can carry is what a machine that exists can hold
+pub mod Fits

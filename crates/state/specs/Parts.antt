@@ -3,6 +3,7 @@ use mathlib.Core.List.{List, [], _∷_, _++_}
 use mathlib.Core.Path.{_≡_}
 use Prim.Native.Nat.{ℕ, _+_, _*_, _^_, _<_}
 use lib.ListN.{length}
+use Rattle.plain.specs.All.{All}
 use Rattle.numbers.specs.Bytes.{bytesOf}
 
 -- how many bytes it takes, which values they can carry, and the bytes of such a value
@@ -15,11 +16,7 @@ pub record Part (A : Type 0) : Type 1 where
 abbrev pub number : ℕ → Part ℕ
 number n = record { width = n; Fits = λ v. v < 2 ^ (8 * n); bytes = bytesOf n }
 
--- each element fits; the bytes of each element, one after the other
-abbrev pub All : {A : Type 0} → (A → Type 0) → List A → Type 0
-All Fits [] = Unit {0}
-All Fits (x ∷ xs) = Fits x × All Fits xs
-
+-- the bytes of each element, one after the other
 unfoldable pub each : {A : Type 0} → (A → List ℕ) → List A → List ℕ
 each bytes [] = []
 each bytes (x ∷ xs) = bytes x ++ each bytes xs

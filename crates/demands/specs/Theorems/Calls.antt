@@ -6,11 +6,13 @@ use mathlib.Core.Path.{_≡_, refl, sym, ap, _∙_, subst}
 use Prim.Native.Nat.{ℕ, _+_}
 use native.Mathlib.Omega.{arith}
 use lib.ListN.{length}
+use Rattle.machine.specs.Fits.{AllBytes, Exist}
+use Rattle.machine.specs.Laws.Carries.{run-carries}
 use Rattle.machine.specs.Run.{After, ended, runFrom, runOf, acceptable}
 use Rattle.machine.specs.declared.Machine.{Machine}
 use Rattle.state.specs.Layout as layout
 use Rattle.state.specs.Laws.Spelling.{state-sound}
-use Rattle.state.specs.Laws.Whole.{fits-whole}
+use Rattle.state.specs.Laws.Fits.{machine-carried, machine-exists, machine-whole}
 use Rattle.host.specs.Handed.{Handed, Hands, wrong-length, run, handedBack}
 use Rattle.demands.specs.History.{World, world, left, host, History, here, then, joined, stepsIn, cyclesIn, Resets}
 use Rattle.demands.specs.Back.{Back}
@@ -23,14 +25,26 @@ use Rattle.demands.specs.Theorems.Three.{three}
 one-machine : (state : List ℕ) (m n : Machine) → Carries state m → Carries state n → m ≡ n
 one-machine state m n a b = state-sound .only m n (a .fit) (b .fit) (a .spelled ∙ sym (b .spelled))
 
+as-long : (state : List ℕ) (m : Machine) → Carries state m → length state ≡ layout.state .width
+as-long state m carries = ap length (sym (carries .spelled)) ∙ state-sound .long m (carries .fit)
+
 -- A call runs the machine that the bytes carry, and hands back bytes that carry the machine that the run leaves.
 pub called : (state memory : List ℕ) (budget : ℕ) (result : List ℕ) (handed : Handed) (m : Machine) → Carries state m → length result ≡ layout.result .width
     → Hands state memory budget result handed → Called memory budget m handed
 called state memory budget result handed m carries long (wrong-length h) =
-    absurd (h (ap length (sym (carries .spelled)) ∙ state-sound .long m (carries .fit), long))
+    absurd (h (as-long state m carries, long))
 called state memory budget result handed m carries long (run n all also fit is kept) =
     subst (λ (x : Machine). Called memory budget x handed) (one-machine state n m (record { fit = fit; spelled = is }) carries)
     (record { as-run = refl; carried = record { fit = kept; spelled = refl } })
+
+-- And such a call there is, whatever memory of bytes and whatever budget the host hands in: what the promise says of the machine that is
+-- left holds of every run.
+pub answered : (state memory : List ℕ) (budget : ℕ) (result : List ℕ) (m : Machine) → Carries state m → AllBytes memory → length result ≡ layout.result .width
+    → Hands state memory budget result (handedBack (runOf memory m budget))
+answered state memory budget result m carries bytes long =
+    let exist : Exist memory m = record { whole = machine-whole m (carries .fit); fits = machine-exists m (carries .fit); bytes = bytes } in
+    let left = run-carries memory m budget exist in
+    run m (as-long state m carries) long (carries .fit) (carries .spelled) (machine-carried (runOf memory m budget .ran .machine) (left .whole) (left .fits))
 
 -- So the next call takes the very machine that was left: two calls are the two runs, one after the other.
 pub called-again : (state memory later : List ℕ) (budget again : ℕ) (result other : List ℕ) (handed back : Handed) (m : Machine) → Carries state m
@@ -81,5 +95,5 @@ pub three-by-calls : {state end : List ℕ} (calls : Calls state end) (a : World
     → acceptable (a .memory) (a .machine) budget ≡ true → {o w v z : World} (l : Loses (one-history calls a carries .history) o w v z)
     → Resets (l .last) ⊎ Back o v z
 three-by-calls calls a carries budget accepted l =
-    three (record { whole = fits-whole (a .machine) (carries .fit); budget = budget; accepted = accepted })
+    three (record { whole = machine-whole (a .machine) (carries .fit); budget = budget; accepted = accepted })
     (l .before) (l .catches) (l .cost) (l .carried) (l .between) (l .above) (l .last) (l .down)

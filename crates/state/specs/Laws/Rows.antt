@@ -2,7 +2,8 @@
 use mathlib.Core.List.{List, [], _∷_, _++_, append-assoc, append-nil}
 use mathlib.Core.Path.{_≡_, sym, ap, _∙_}
 use Prim.Native.Nat.{ℕ}
-use Rattle.state.specs.Parts.{All, each}
+use Rattle.plain.specs.All.{All}
+use Rattle.state.specs.Parts.{each}
 
 pub each-more : {A : Type 0} (bytes : A → List ℕ) (xs : List A) (x : A) → each bytes (xs ++ (x ∷ [])) ≡ each bytes xs ++ bytes x
 unfolding each

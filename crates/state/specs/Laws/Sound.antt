@@ -7,7 +7,8 @@ use native.Mathlib.Omega.{arith}
 use lib.ListN.{length, take, drop, length-append}
 use lib.Seq.{take-at, drop-at}
 use Rattle.numbers.specs.Laws.Bytes.{length-bytes, only-number}
-use Rattle.state.specs.Parts.{Part, All, each, number, row, Field, widthOf, FieldsFit, fieldBytes, fields}
+use Rattle.plain.specs.All.{All}
+use Rattle.state.specs.Parts.{Part, each, number, row, Field, widthOf, FieldsFit, fieldBytes, fields}
 
 pub record Sound {A : Type 0} (part : Part A) : Type 0 where
   pub long : (x : A) → part .Fits x → length (part .bytes x) ≡ part .width
