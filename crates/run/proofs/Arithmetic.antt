@@ -6,6 +6,7 @@ use native.Mathlib.Omega.{arith}
 use borrow.Author.Tests.{lt-ltb, le-ltb}
 use lib.ListN.{getD, set}
 use Rattle.plain.specs.Answer.{refuses, gives}
+use Rattle.links.specs.Depths.{cellsDepth}
 use Rattle.word.specs.Dispatch.{oneCellOf, twoCellsOf}
 use Rattle.word.specs.declared.Changed.{Changed}
 use Rattle.word.specs.declared.OneCell.{OneCell}
@@ -25,7 +26,7 @@ module _ (operand next : ℕ) (cells : List ℕ) (p flag : ℕ) (op : OneCell) w
       few (ONE op) 1 operand next cells p flag (p - 1) (oneCellOf op (getD cells (p - 1) 0) flag .value ∷ []) next (oneCellOf op (getD cells (p - 1) 0) flag .flag)
       (λ code e mem links counter. rw (e .asks))
 
-  pub one-went : (c : Changed) → c ≡ oneCellOf op (getD cells (p - 1) 0) flag → 1 ≤ p → p ≤ 64 →
+  pub one-went : (c : Changed) → c ≡ oneCellOf op (getD cells (p - 1) 0) flag → 1 ≤ p → p ≤ cellsDepth →
       Meets (ONE op) 1 operand next cells p flag (set cells (p - 1) (c .value)) (gives (record { p = p; flag = c .flag; counter = next }))
   unfolding rowOf
   one-went c same h top =
@@ -54,7 +55,7 @@ module _ (operand next : ℕ) (cells : List ℕ) (p flag : ℕ) (op : TwoCells) 
   pub two-few : p < 2 → Meets (TWO op) 2 operand next cells p flag cells (refuses 5)
   two-few = few-of (twoCellsOf op (getD cells (p - 2) 0) (getD cells (p - 1) 0) flag) refl
 
-  pub two-single : (value after : ℕ) → twoCellsOf op (getD cells (p - 2) 0) (getD cells (p - 1) 0) flag ≡ Single value after → 2 ≤ p → p ≤ 64 →
+  pub two-single : (value after : ℕ) → twoCellsOf op (getD cells (p - 2) 0) (getD cells (p - 1) 0) flag ≡ Single value after → 2 ≤ p → p ≤ cellsDepth →
       Meets (TWO op) 2 operand next cells p flag (set cells (p - 2) value) (gives (record { p = p - 1; flag = after; counter = next }))
   unfolding rowOf
   two-single value after same h top =
@@ -62,7 +63,7 @@ module _ (operand next : ℕ) (cells : List ℕ) (p flag : ℕ) (op : TwoCells) 
       (λ code e mem links counter. rw (same, e .asks))
       (set cells (p - 2) value) (p - 1) h (omega arith) refl (omega arith)
 
-  pub two-double : (lower upper after : ℕ) → twoCellsOf op (getD cells (p - 2) 0) (getD cells (p - 1) 0) flag ≡ Double lower upper after → 2 ≤ p → p ≤ 64 →
+  pub two-double : (lower upper after : ℕ) → twoCellsOf op (getD cells (p - 2) 0) (getD cells (p - 1) 0) flag ≡ Double lower upper after → 2 ≤ p → p ≤ cellsDepth →
       Meets (TWO op) 2 operand next cells p flag (set (set cells (p - 2) lower) (p - 1) upper)
       (gives (record { p = p; flag = after; counter = next }))
   unfolding rowOf
@@ -73,8 +74,8 @@ module _ (operand next : ℕ) (cells : List ℕ) (p flag : ℕ) (op : TwoCells) 
       (ap (λ (n : ℕ). set (set cells (p - 2) lower) n upper) (omega arith)) (omega arith)
 
   -- the divisor is zero: test 13
-  pub two-zero : twoCellsOf op (getD cells (p - 2) 0) (getD cells (p - 1) 0) flag ≡ DivisorZero → 2 ≤ p → p ≤ 64 → Meets (TWO op) 2 operand next cells p flag cells (refuses 13)
+  pub two-zero : twoCellsOf op (getD cells (p - 2) 0) (getD cells (p - 1) 0) flag ≡ DivisorZero → 2 ≤ p → p ≤ cellsDepth → Meets (TWO op) 2 operand next cells p flag cells (refuses 13)
   unfolding rowOf carried
   two-zero same h top code e mem links counter =
-      let room : p - 2 + 0 ≤ 64 = omega arith in
-      (rw (e .names, same, e .known, e .asks, le-ltb p 2 h, le-ltb 64 (p - 2 + 0) room), refl)
+      let room : p - 2 + 0 ≤ cellsDepth = omega arith in
+      (rw (e .names, same, e .known, e .asks, le-ltb p 2 h, le-ltb cellsDepth (p - 2 + 0) room), refl)

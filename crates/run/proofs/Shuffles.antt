@@ -6,13 +6,14 @@ use native.Mathlib.Omega.{arith}
 use lib.ListN.{getD, set}
 use lib.Seq.{sets}
 use Rattle.plain.specs.Answer.{refuses, gives}
+use Rattle.links.specs.Depths.{cellsDepth}
 use Rattle.machine.specs.Rows.{rowOf}
 use Rattle.machine.specs.Codes.{SHUFFLE, NOP, DROP, SWAP, NIP, ROT}
 use Rattle.run.specs.Promises.{Meets}
 use Rattle.run.proofs.OnCells.{few, went}
 
 module _ (operand next : ℕ) (cells : List ℕ) (p flag : ℕ) where
-  pub nothing-went : p ≤ 64 →
+  pub nothing-went : p ≤ cellsDepth →
       Meets (SHUFFLE NOP) 0 operand next cells p flag (cells) (gives (record { p = p; flag = flag; counter = next }))
   unfolding rowOf
   nothing-went top =
@@ -23,7 +24,7 @@ module _ (operand next : ℕ) (cells : List ℕ) (p flag : ℕ) where
   unfolding rowOf
   discard-few = few (SHUFFLE DROP) 1 operand next cells p flag (p - 1) ([]) (next) (flag) (λ code e mem links counter. rw (e .asks))
 
-  pub discard-went : 1 ≤ p → p ≤ 64 →
+  pub discard-went : 1 ≤ p → p ≤ cellsDepth →
       Meets (SHUFFLE DROP) 1 operand next cells p flag (cells) (gives (record { p = p - 1; flag = flag; counter = next }))
   unfolding rowOf
   discard-went h top =
@@ -34,7 +35,7 @@ module _ (operand next : ℕ) (cells : List ℕ) (p flag : ℕ) where
   unfolding rowOf
   swap-few = few (SHUFFLE SWAP) 2 operand next cells p flag (p - 2) (getD cells (p - 1) 0 ∷ getD cells (p - 2) 0 ∷ []) (next) (flag) (λ code e mem links counter. rw (e .asks))
 
-  pub swap-went : 2 ≤ p → p ≤ 64 →
+  pub swap-went : 2 ≤ p → p ≤ cellsDepth →
       Meets (SHUFFLE SWAP) 2 operand next cells p flag (set (set cells (p - 2) (getD cells (p - 1) 0)) (p - 1) (getD cells (p - 2) 0)) (gives (record { p = p; flag = flag; counter = next }))
   unfolding rowOf
   swap-went h top =
@@ -46,7 +47,7 @@ module _ (operand next : ℕ) (cells : List ℕ) (p flag : ℕ) where
   unfolding rowOf
   nip-few = few (SHUFFLE NIP) 2 operand next cells p flag (p - 2) (getD cells (p - 1) 0 ∷ []) (next) (flag) (λ code e mem links counter. rw (e .asks))
 
-  pub nip-went : 2 ≤ p → p ≤ 64 →
+  pub nip-went : 2 ≤ p → p ≤ cellsDepth →
       Meets (SHUFFLE NIP) 2 operand next cells p flag (set cells (p - 2) (getD cells (p - 1) 0)) (gives (record { p = p - 1; flag = flag; counter = next }))
   unfolding rowOf
   nip-went h top =
@@ -64,7 +65,7 @@ module _ (operand next : ℕ) (cells : List ℕ) (p flag : ℕ) where
       ap (λ (n : ℕ). set (set (set cells (p - 3) (getD cells (p - 2) 0)) n (getD cells (p - 1) 0)) (suc (suc (p - 3))) (getD cells (p - 3) 0)) two ∙
       ap (λ (n : ℕ). set (set (set cells (p - 3) (getD cells (p - 2) 0)) (p - 2) (getD cells (p - 1) 0)) n (getD cells (p - 3) 0)) one
 
-  pub rot-went : 3 ≤ p → p ≤ 64 →
+  pub rot-went : 3 ≤ p → p ≤ cellsDepth →
       Meets (SHUFFLE ROT) 3 operand next cells p flag (set (set (set cells (p - 3) (getD cells (p - 2) 0)) (p - 2) (getD cells (p - 1) 0)) (p - 1) (getD cells (p - 3) 0)) (gives (record { p = p; flag = flag; counter = next }))
   unfolding rowOf
   rot-went h top =

@@ -3,11 +3,13 @@ use crate::Reached;
 use crate::Spot;
 use crate::bytes;
 use crate::place;
+use machine::Machine;
 use machine::Place;
 use machine::Width;
 ghost use mathlib.Core.Path.{_≡_};
 ghost use Prim.Native.Nat.{_+_, _≤_};
 ghost use lib.ListN.{length};
+ghost use Rattle.links.specs.Depths.{cellsDepth};
 ghost use Rattle.numbers.specs.Bytes.{numberAt};
 ghost use Rattle.machine.specs.Memory.{size};
 ghost use Rattle.run.specs.Answers.{saysReached};
@@ -27,8 +29,8 @@ pub(crate) fn width_of(code: u8) -> Width
 }
 
 // The address is the top cell; a store has its value under it.
-pub(crate) fn reach(cells: &[u32; 64], takes: usize, width: Width, p: usize) -> Reached
-    requires { ⌜ (1 ≤ takes) × (p ≤ 64) ⌝ }
+pub(crate) fn reach(cells: &[u32; Machine::CELLS], takes: usize, width: Width, p: usize) -> Reached
+    requires { ⌜ (1 ≤ takes) × (p ≤ cellsDepth) ⌝ }
     ensures { λ r. ⌜ saysReached r ≡ reachOf takes width (now (cells .entry)) p ⌝ }
 {
     if p < takes {

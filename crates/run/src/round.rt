@@ -46,10 +46,10 @@ pub(crate) fn ended(answer: u32, steps: Steps, cycles: Cycles, machine: Machine)
 
 // What a run hands back of its own arrays and registers.
 fn finished(
-    cells: [u32; 64],
-    returns: [u32; 64],
-    frames: [Frame; 33],
-    levels: [Level; 9],
+    cells: [u32; Machine::CELLS],
+    returns: [u32; Machine::RETURNS],
+    frames: [Frame; Links::FRAMES],
+    levels: [Level; Links::LEVELS],
     regs: Registers,
     budget: u32,
 ) -> Ran
@@ -178,7 +178,7 @@ pub(crate) fn rounds(mem: &mut [u8], start: Machine, budget: u32) -> Ran
                 let to = cells[p - 1];
                 returns[r] = next;
                 frames[s + 1] = Frame {
-                    locals: [0u32; 16],
+                    locals: [0u32; Frame::LOCALS],
                     r,
                     address: next,
                 };
@@ -317,7 +317,7 @@ pub(crate) fn rounds(mem: &mut [u8], start: Machine, budget: u32) -> Ran
                 };
                 returns[r] = next;
                 frames[s + 1] = Frame {
-                    locals: [0u32; 16],
+                    locals: [0u32; Frame::LOCALS],
                     r,
                     address: next,
                 };
@@ -336,7 +336,7 @@ pub(crate) fn rounds(mem: &mut [u8], start: Machine, budget: u32) -> Ran
                 let to = cells[p - 1];
                 returns[r] = next;
                 frames[s + 1] = Frame {
-                    locals: [0u32; 16],
+                    locals: [0u32; Frame::LOCALS],
                     r,
                     address: next,
                 };

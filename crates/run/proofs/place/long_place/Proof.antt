@@ -2,6 +2,7 @@
 use borrow.Author.Tests.{le-leb, lt-leb}
 use Prim.Native.Nat.{_+_}
 use Rattle.machine.specs.Memory.{placeOf}
+use Rattle.machine.specs.Limits.{memoryLength}
 use borrow.Author.Needs.{needs}
 use Rattle.run.proofs.place.long_place.Statement.{statement}
 use Rattle.run.proofs.place.long_place.Tie as tie
@@ -12,7 +13,7 @@ add-if1 c = search needs
 returns : tie.Need-returns
 unfolding placeOf
 returns c =
-    rw (le-leb (c .before .args .at + 4) 32768 (c .if1 .taken))
+    rw (le-leb (c .before .args .at + 4) memoryLength (c .if1 .taken))
 
 cell-at-requires : tie.Need-cell-at-requires
 cell-at-requires c κs = search needs
@@ -20,7 +21,7 @@ cell-at-requires c κs = search needs
 returns-2 : tie.Need-returns-2
 unfolding placeOf
 returns-2 c =
-    rw (lt-leb (c .before .before .args .at + 4) 32768 (c .before .if1 .left)) (c .cell-at .ensures)
+    rw (lt-leb (c .before .before .args .at + 4) memoryLength (c .before .if1 .left)) (c .cell-at .ensures)
 
 pub long-place-spec : {M : Type 1} → statement M
 long-place-spec = tie.close (tie.spec add-if1 returns cell-at-requires returns-2)
