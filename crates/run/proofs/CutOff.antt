@@ -22,10 +22,7 @@ use Rattle.machine.specs.Laws.Told.{Tells}
 use Rattle.machine.specs.declared.Machine.{Machine}
 use Rattle.run.specs.Machines.{inside}
 use Rattle.run.specs.Promises.{fetchedOf}
-
--- two answers that differ
-apart : {A : Type 0} → _≡_ {A = ℕ} 0 1 → A
-apart z = absurd (omega arith)
+use Rattle.run.proofs.Answered.{apart}
 
 -- what is fetched is the instruction that stands there
 inside-of : (i j : Instruction) → fetchedOf i ≡ gives j → i ≡ j

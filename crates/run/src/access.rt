@@ -1,17 +1,13 @@
-// Fetches and stores: where an access reaches is judged once; memory is read and written by width.
+// Where a fetch or a store reaches: judged once.
 use crate::Reached;
 use crate::Spot;
-use crate::bytes;
 use crate::place;
 use machine::Machine;
 use machine::Place;
 use machine::Width;
 ghost use mathlib.Core.Path.{_≡_};
-ghost use Prim.Native.Nat.{_+_, _≤_};
-ghost use lib.ListN.{length};
+ghost use Prim.Native.Nat.{_≤_};
 ghost use Rattle.links.specs.Depths.{cellsDepth};
-ghost use Rattle.numbers.specs.Bytes.{numberAt};
-ghost use Rattle.machine.specs.Memory.{size};
 ghost use Rattle.run.specs.Answers.{saysReached};
 ghost use Rattle.run.specs.Accesses.{widthOf, reachOf};
 
@@ -42,16 +38,5 @@ pub(crate) fn reach(cells: &[u32; Machine::CELLS], takes: usize, width: Width, p
         Place::Local(k) => Reached::At(Spot::Local(k)),
         Place::Cell(k) => Reached::At(Spot::Cell(k)),
         Place::Nowhere => Reached::Refused(12),
-    }
-}
-
-pub(crate) fn read_number(mem: &[u8], at: usize, width: Width) -> u32
-    requires { ⌜ at + size width ≤ length (now mem) ⌝ }
-    ensures { λ r. ⌜ r ≡ numberAt (size width) (now (mem .entry)) at ⌝ }
-{
-    match width {
-        Width::Byte => bytes::read_byte(mem, at),
-        Width::Word => bytes::read_word(mem, at),
-        Width::Long => bytes::read_long(mem, at),
     }
 }

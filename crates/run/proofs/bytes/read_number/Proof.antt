@@ -1,11 +1,11 @@
--- Made by .ci/named from read_number.rules: 6badf3925aa7094c f637f73b88779632
+-- Made by .ci/named from read_number.rules: 6badf3925aa7094c a3e2be2d6c3adf3e
 -- By its width.
 use mathlib.Core.Path.{ap}
 use native.Mathlib.Omega.{arith}
 use Rattle.machine.specs.Memory.{size}
 use borrow.Author.Needs.{needs}
-use Rattle.run.proofs.access.read_number.Statement.{statement}
-use Rattle.run.proofs.access.read_number.Tie as tie
+use Rattle.run.proofs.bytes.read_number.Statement.{statement}
+use Rattle.run.proofs.bytes.read_number.Tie as tie
 
 enum-told : tie.Need-enum-told
 enum-told c = search needs
