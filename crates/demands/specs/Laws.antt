@@ -14,5 +14,7 @@ pub mod Added
 pub mod Views
 -- while the exception level of a CATCH stands
 pub mod Stood
+-- the codes of the operations that move the flag
+pub mod Flag
 -- histories by computation
 pub mod Walks

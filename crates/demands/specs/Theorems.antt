@@ -18,5 +18,7 @@ pub mod Cases
 pub mod Worked
 -- nothing else touches the flag
 pub mod Flag
+-- P after a step by the table alone
+pub mod Depth
 -- no second answer
 pub mod Only

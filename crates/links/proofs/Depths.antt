@@ -1,8 +1,9 @@
--- With the pointers within the depths, the three loops decide the test for well-formed links, in order.
+-- With the pointers within the depths, the two loops decide the test for well-formed links, in order.
 use mathlib.Core.Bool.{Bool, true, false}
 use mathlib.Core.Path.{_≡_}
 use Prim.Native.Nat.{_≤_}
 use borrow.Author.Tests.{le-leb}
+use Rattle.plain.specs.Choice.{both}
 use Rattle.links.specs.Depths.{returnsDepth, subroutinesDepth, exceptionsDepth, mostCopyOfP}
 use Rattle.links.specs.Linked.{linked, rises, within, copyOfR, copyOfS, copyOfP}
 use Rattle.links.specs.declared.Links.{Links}
@@ -11,16 +12,12 @@ module _ (l : Links) (r : l .r ≤ returnsDepth) (s : l .s ≤ subroutinesDepth)
     (is-returns : returns ≡ rises (copyOfR (l .frames)) (l .r) (l .s)) where
   pub returns-decide : returns ≡ false → false ≡ linked l
   unfolding linked
-  returns-decide no-rise = rw (le-leb (l .r) returnsDepth r, le-leb (l .s) subroutinesDepth s, le-leb (l .e) exceptionsDepth e, ← is-returns, no-rise)
+  returns-decide no-rise =
+      rw
+      (le-leb (l .r) returnsDepth r, le-leb (l .s) subroutinesDepth s, le-leb (l .e) exceptionsDepth e, ← is-returns, no-rise)
 
-  module _ (rise : returns ≡ true) (subroutines : Bool)
-      (is-subroutines : subroutines ≡ rises (copyOfS (l .levels)) (l .s) (l .e)) where
-    pub subroutines-decide : subroutines ≡ false → false ≡ linked l
-    unfolding linked
-    subroutines-decide no-rise =
-        rw (le-leb (l .r) returnsDepth r, le-leb (l .s) subroutinesDepth s, le-leb (l .e) exceptionsDepth e, ← is-returns, rise, ← is-subroutines, no-rise)
-
-    pub depths-decide : subroutines ≡ true → linked l ≡ within (copyOfP (l .levels)) mostCopyOfP (l .e)
-    unfolding linked
-    depths-decide rise₂ =
-        rw (le-leb (l .r) returnsDepth r, le-leb (l .s) subroutinesDepth s, le-leb (l .e) exceptionsDepth e, ← is-returns, rise, ← is-subroutines, rise₂)
+  pub levels-decide : returns ≡ true →
+      linked l ≡ both (rises (copyOfS (l .levels)) (l .s) (l .e)) (within (copyOfP (l .levels)) mostCopyOfP (l .e))
+  unfolding linked
+  levels-decide rise =
+      rw (le-leb (l .r) returnsDepth r, le-leb (l .s) subroutinesDepth s, le-leb (l .e) exceptionsDepth e, ← is-returns, rise)

@@ -9,29 +9,29 @@ use Rattle.links.specs.declared.Frame.{Frame}
 use Rattle.links.specs.declared.Level.{Level}
 use Rattle.links.specs.declared.Links.{Links}
 
-abbrev pub Cell : ℕ → Type 0
-Cell x = x < 2 ^ 32
+abbrev pub CellFits : ℕ → Type 0
+CellFits x = x < 2 ^ 32
 
-abbrev pub Pointer : ℕ → Type 0
-Pointer x = x < 2 ^ 64
+abbrev pub PointerFits : ℕ → Type 0
+PointerFits x = x < 2 ^ 64
 
 pub record FrameFits (f : Frame) : Type 0 where
   pub locals-long : length (f .locals) ≡ localsCount
-  pub locals-fit : All Cell (f .locals)
-  pub r-fits : Pointer (f .r)
-  pub address-fits : Cell (f .address)
+  pub locals-fit : All CellFits (f .locals)
+  pub r-fits : PointerFits (f .r)
+  pub address-fits : CellFits (f .address)
 
 pub record LevelFits (x : Level) : Type 0 where
   pub cells-long : length (x .cells) ≡ levelCells
-  pub cells-fit : All Cell (x .cells)
-  pub s-fits : Pointer (x .s)
-  pub p-fits : Pointer (x .p)
-  pub address-fits : Cell (x .address)
+  pub cells-fit : All CellFits (x .cells)
+  pub s-fits : PointerFits (x .s)
+  pub p-fits : PointerFits (x .p)
+  pub address-fits : CellFits (x .address)
 
 pub record LinksFit (l : Links) : Type 0 where
-  pub returns-fit : All Cell (l .returns)
-  pub r-fits : Pointer (l .r)
+  pub returns-fit : All CellFits (l .returns)
+  pub r-fits : PointerFits (l .r)
   pub frames-fit : All FrameFits (l .frames)
-  pub s-fits : Pointer (l .s)
+  pub s-fits : PointerFits (l .s)
   pub levels-fit : All LevelFits (l .levels)
-  pub e-fits : Pointer (l .e)
+  pub e-fits : PointerFits (l .e)

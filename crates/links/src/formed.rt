@@ -1,9 +1,10 @@
-// The three loops of the test for well-formed links, each from the top level down to level 1.
+// The two loops of the test for well-formed links, each from the top level down to level 1.
 use crate::Frame;
 use crate::Level;
 use crate::Links;
 ghost use mathlib.Core.Path.{_≡_};
 ghost use Prim.Native.Nat.{_≤_};
+ghost use Rattle.plain.specs.Choice.{both};
 ghost use Rattle.links.specs.Depths.{subroutinesDepth, exceptionsDepth, mostCopyOfP};
 ghost use Rattle.links.specs.Linked.{copyOfR, copyOfS, copyOfP, rises, within};
 
@@ -25,10 +26,10 @@ pub(crate) fn returns_rise(frames: [Frame; Links::FRAMES], r: usize, s: usize) -
     true
 }
 
-// The copies of S rise strictly up to level e, with the last below s.
-pub(crate) fn subroutines_rise(levels: [Level; Links::LEVELS], s: usize, e: usize) -> bool
+// The copies of S rise strictly up to level e, with the last below s; and each copy of P leaves room for the code that a THROW pushes.
+pub(crate) fn levels_hold(levels: [Level; Links::LEVELS], s: usize, e: usize) -> bool
     requires { ⌜ e ≤ exceptionsDepth ⌝ }
-    ensures { λ b. ⌜ b ≡ rises (copyOfS levels) s e ⌝ }
+    ensures { λ b. ⌜ b ≡ both (rises (copyOfS levels) s e) (within (copyOfP levels) mostCopyOfP e) ⌝ }
 {
     let mut top = s;
     let mut n = e;
@@ -37,23 +38,10 @@ pub(crate) fn subroutines_rise(levels: [Level; Links::LEVELS], s: usize, e: usiz
         if top <= level.s {
             return false;
         }
-        top = level.s;
-        n = n - 1;
-    }
-    true
-}
-
-// A copy of P leaves room for the code that a THROW pushes.
-pub(crate) fn depths_within(levels: [Level; Links::LEVELS], e: usize) -> bool
-    requires { ⌜ e ≤ exceptionsDepth ⌝ }
-    ensures { λ b. ⌜ b ≡ within (copyOfP levels) mostCopyOfP e ⌝ }
-{
-    let mut n = e;
-    while 0 < n {
-        let level = levels[n];
         if Links::MOST_COPY_OF_P < level.p {
             return false;
         }
+        top = level.s;
         n = n - 1;
     }
     true

@@ -86,8 +86,5 @@ pub fn well_formed(links: Links) -> bool
     if !formed::returns_rise(frames, links.r, links.s) {
         return false;
     }
-    if !formed::subroutines_rise(levels, links.s, links.e) {
-        return false;
-    }
-    formed::depths_within(levels, links.e)
+    formed::levels_hold(levels, links.s, links.e)
 }

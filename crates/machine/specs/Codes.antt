@@ -15,6 +15,7 @@ use Rattle.machine.specs.declared.Width.the-variants.{Byte, Word, Long}
 -- the instructions on parameter cells alone
 pub data Shuffle : Type 0 where
   NOP DROP DUP SWAP OVER NIP ROT PSP-AT ZERO DUP-NONZERO : Shuffle
+  deriving Discrete as Shuffle-discrete
 
 -- those that only go elsewhere
 pub data Jump : Type 0 where

@@ -2,16 +2,16 @@
 use mathlib.Core.List.{List}
 use Prim.Native.Nat.{ℕ, _^_, _<_}
 use Rattle.plain.specs.All.{All}
-use Rattle.links.specs.Fits.{Cell, Pointer, LinksFit}
+use Rattle.links.specs.Fits.{CellFits, PointerFits, LinksFit}
 use Rattle.machine.specs.State.{Whole}
 use Rattle.machine.specs.declared.Machine.{Machine}
 
 pub record Fits (m : Machine) : Type 0 where
-  pub cells-fit : All Cell (m .cells)
-  pub p-fits : Pointer (m .p)
+  pub cells-fit : All CellFits (m .cells)
+  pub p-fits : PointerFits (m .p)
   pub links-fit : LinksFit (m .links)
-  pub counter-fits : Cell (m .counter)
-  pub flag-fits : Cell (m .flag)
+  pub counter-fits : CellFits (m .counter)
+  pub flag-fits : CellFits (m .flag)
 
 -- every byte of a memory is one
 abbrev pub AllBytes : List ℕ → Type 0

@@ -10,8 +10,8 @@ pub mod Prices
 pub mod Marks
 -- what every row keeps, kind by kind
 pub mod Told
--- a row leaves the flag as it was, unless its arithmetic moves it
-pub mod Flags
+-- what a row puts is what the table says
+pub mod Puts
 -- the tests let through only actions that the linked stacks allow
 pub mod Granted
 -- a step keeps a well-formed state well formed

@@ -139,7 +139,7 @@ module _ (o w v : World) (k : ℕ) (s : Stood o w) (e : stepOf (w .memory) (w .m
         counted = s .counted;
         stands = subst (λ (x : Links). Stands (o .machine .links) (o .machine .p - 1) x) (sym (acts .acted)) h;
       }))
-      (λ h. inr (gone (linkAt w) (acts .acted) (fair-at (w .memory) (w .machine) (s .formed) .tells) h))
+      (λ h. inr (gone (linkAt w) (acts .acted) (fair-at (w .memory) (w .machine) .tells) h))
       (next (o .machine .links) (o .machine .p - 1) (w .machine .links) (s .stands) (linkAt w) (acts .allowed))
 
 -- one more moment

@@ -9,7 +9,7 @@ use Rattle.links.specs.Depths.{returnsDepth, localsCount, levelCells}
 use Rattle.links.specs.Linked.{Shaped, frameAt, levelAt, noFrame, noLevel}
 use Rattle.links.specs.Actions.{Act, still, push, call, catch, exit, pop, throw, keep, reset, act, noLocals, calledFrame}
 use Rattle.links.specs.Allowed.{Allowed}
-use Rattle.links.specs.Fits.{Cell, FrameFits, LevelFits, LinksFit}
+use Rattle.links.specs.Fits.{CellFits, FrameFits, LevelFits, LinksFit}
 use Rattle.links.specs.Laws.Sound.{Sound}
 use Rattle.links.specs.Laws.Kept.{kept}
 use Rattle.links.specs.declared.Links.{Links}
@@ -17,20 +17,20 @@ use Rattle.links.specs.declared.Links.{Links}
 -- the numbers that an action brings
 abbrev pub ActFits : Act → Type 0
 ActFits still = Unit {0}
-ActFits (push x) = Cell x
-ActFits (call address) = Cell address
-ActFits (catch address p) = Cell address
+ActFits (push x) = CellFits x
+ActFits (call address) = CellFits address
+ActFits (catch address p) = CellFits address
 ActFits exit = Unit {0}
 ActFits pop = Unit {0}
 ActFits throw = Unit {0}
-ActFits (keep locals cells) = (length locals ≡ localsCount) × All Cell locals × (length cells ≡ levelCells) × All Cell cells
+ActFits (keep locals cells) = (length locals ≡ localsCount) × All CellFits locals × (length cells ≡ levelCells) × All CellFits cells
 ActFits reset = Unit {0}
 
-no-locals : All Cell noLocals
+no-locals : All CellFits noLocals
 unfolding noLocals
-no-locals = all-replicate Cell localsCount 0 (omega arith)
+no-locals = all-replicate CellFits localsCount 0 (omega arith)
 
-called-fits : (r address : ℕ) → r ≤ returnsDepth → Cell address → FrameFits (calledFrame r address)
+called-fits : (r address : ℕ) → r ≤ returnsDepth → CellFits address → FrameFits (calledFrame r address)
 unfolding noLocals
 called-fits r address h fits =
     record { locals-long = length-replicate {A = ℕ} localsCount 0; locals-fit = no-locals; r-fits = omega arith; address-fits = fits }
@@ -44,7 +44,7 @@ module _ (l : Links) (shaped : Shaped l) (sound : Sound l) (h : LinksFit l) wher
   level-in-view = all-at LevelFits (l .levels) (h .levels-fit) (l .e) noLevel (omega (arith, shaped .levels-long, sound .e-within))
 
   -- pointers within the depths fit
-  fitting : (a : Act) → Allowed a l → All Cell (act a l .returns) → All FrameFits (act a l .frames) → All LevelFits (act a l .levels) →
+  fitting : (a : Act) → Allowed a l → All CellFits (act a l .returns) → All FrameFits (act a l .frames) → All LevelFits (act a l .levels) →
       LinksFit (act a l)
   fitting a ok returns frames levels =
       let after = kept a l shaped sound ok in
@@ -60,12 +60,12 @@ module _ (l : Links) (shaped : Shaped l) (sound : Sound l) (h : LinksFit l) wher
   pub act-fits : (a : Act) → ActFits a → Allowed a l → LinksFit (act a l)
   act-fits still fits ok = h
   act-fits (push x) fits ok =
-      fitting (push x) ok (all-set Cell (l .returns) (h .returns-fit) (l .r) x fits) (h .frames-fit) (h .levels-fit)
+      fitting (push x) ok (all-set CellFits (l .returns) (h .returns-fit) (l .r) x fits) (h .frames-fit) (h .levels-fit)
   act-fits (call address) fits ok =
-      fitting (call address) ok (all-set Cell (l .returns) (h .returns-fit) (l .r) address fits)
+      fitting (call address) ok (all-set CellFits (l .returns) (h .returns-fit) (l .r) address fits)
       (all-set FrameFits (l .frames) (h .frames-fit) (suc (l .s)) _ (called-fits (l .r) address (sound .r-within) fits)) (h .levels-fit)
   act-fits (catch address p) fits ok =
-      fitting (catch address p) ok (all-set Cell (l .returns) (h .returns-fit) (l .r) address fits)
+      fitting (catch address p) ok (all-set CellFits (l .returns) (h .returns-fit) (l .r) address fits)
       (all-set FrameFits (l .frames) (h .frames-fit) (suc (l .s)) _ (called-fits (l .r) address (sound .r-within) fits))
       (all-set LevelFits (l .levels) (h .levels-fit) (suc (l .e)) _
       (record {

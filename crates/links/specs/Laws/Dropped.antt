@@ -1,9 +1,8 @@
 -- While a CATCH's exception level stands: dropping levels leaves it standing, or brings the links back to what they were.
 use mathlib.Core.Bool.{Bool, true, false}
 use mathlib.Core.Logic.{_⊎_, inl, inr, ⊎-elim}
-use mathlib.Core.Path.{_≡_, refl, sym, ap, _∙_}
+use mathlib.Core.Path.{_≡_, refl, ap, _∙_}
 use Prim.Native.Nat.{ℕ, suc, _-_, _<_, _≤_}
-use native.Mathlib.Nat.{eq-or-lt-of-le}
 use native.Mathlib.Omega.{arith}
 use lib.Dec.{ltb, leb}
 use Rattle.links.specs.Actions.{throw, act, lowered, dropsFrame, eAfterDrop, thrownS, thrownR}
@@ -12,7 +11,7 @@ use Rattle.links.specs.Laws.Kept.{lowered-shaped}
 use Rattle.links.specs.Linked.{copyOfR, copyOfS, copyOfP}
 use Rattle.links.specs.Restored.{Restored}
 use Rattle.links.specs.Laws.Stands.{Stands, Gone, by-throw}
-use Rattle.links.specs.Laws.Rising.{last-below, ordered}
+use Rattle.links.specs.Laws.Rising.{last-below, ordered, own-or-later}
 use Rattle.links.specs.Laws.Sound.{Sound}
 use Rattle.links.specs.Laws.Tests.{drops, stays}
 use Rattle.links.specs.declared.Links.{Links}
@@ -49,22 +48,10 @@ module _ (o : Links) (p : ℕ) (l : Links) (h : Stands o p l) where
 
   -- the top subroutine level is the CATCH's, or a later one that holds a greater R; the exception levels alike
   frame-case : (l .s ≡ suc (o .s)) ⊎ ((suc (o .s) < l .s) × (o .r < copyOfR (l .frames) (l .s)))
-  frame-case =
-      ⊎-elim (λ (e : suc (o .s) ≡ l .s). inl (sym e))
-      (λ (lt : suc (o .s) < l .s).
-      let up : copyOfR (l .frames) (suc (o .s)) < copyOfR (l .frames) (l .s) =
-      ordered (copyOfR (l .frames)) (l .r) (l .s) (suc (o .s)) (l .s) (h .sound .returns-rise) (omega arith) lt (omega arith) in
-      inr (lt, omega (arith, h .holds-r)))
-      (eq-or-lt-of-le (h .s-above))
+  frame-case = own-or-later (copyOfR (l .frames)) (l .r) (l .s) (o .s) (o .r) (h .sound .returns-rise) (h .s-above) (h .holds-r)
 
   level-case : (l .e ≡ suc (o .e)) ⊎ ((suc (o .e) < l .e) × (o .s < copyOfS (l .levels) (l .e)))
-  level-case =
-      ⊎-elim (λ (e : suc (o .e) ≡ l .e). inl (sym e))
-      (λ (lt : suc (o .e) < l .e).
-      let up : copyOfS (l .levels) (suc (o .e)) < copyOfS (l .levels) (l .e) =
-      ordered (copyOfS (l .levels)) (l .s) (l .e) (suc (o .e)) (l .e) (h .sound .subroutines-rise) (omega arith) lt (omega arith) in
-      inr (lt, omega (arith, h .holds-s)))
-      (eq-or-lt-of-le (h .e-above))
+  level-case = own-or-later (copyOfS (l .levels)) (l .s) (l .e) (o .e) (o .s) (h .sound .subroutines-rise) (h .e-above) (h .holds-s)
 
   -- E after the top subroutine level was dropped, by what the test says: still above the old E where that was a later level
   e-still-above : o .s < l .s - 1 → (b : Bool) → both (ltb 0 (l .e)) (leb (l .s - 1) (copyOfS (l .levels) (l .e))) ≡ b

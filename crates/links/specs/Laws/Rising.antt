@@ -1,5 +1,5 @@
 -- Laws of copies that rise strictly, and of copies within a limit, when the top, the count or the copies change.
-use mathlib.Core.Logic.{⊎-elim}
+use mathlib.Core.Logic.{_⊎_, inl, inr, ⊎-elim}
 use mathlib.Core.Path.{_≡_, sym, subst}
 use Prim.Native.Nat.{ℕ, zero, suc, _-_, _<_, _≤_}
 use native.Mathlib.Nat.{eq-or-lt-of-le}
@@ -50,6 +50,15 @@ module _ (copy : ℕ → ℕ) where
   pub ordered : (top n m k : ℕ) → Rise copy top n → 0 < m → m < k → k ≤ n → copy m < copy k
   ordered top n m zero h z lt le = absurd (omega arith)
   ordered top n m (suc k) h z lt le = each-below (copy (suc k)) k m (cut top n k h (omega arith)) z (omega arith)
+
+  -- level n is level m + 1, or a higher one with a greater copy
+  pub own-or-later : (top n m held : ℕ) → Rise copy top n → m < n → copy (suc m) ≡ held → (n ≡ suc m) ⊎ ((suc m < n) × (held < copy n))
+  own-or-later top n m held h above holds =
+      ⊎-elim (λ (e : suc m ≡ n). inl (sym e))
+      (λ (lt : suc m < n).
+      let up : copy (suc m) < copy n = ordered top n (suc m) n h (omega arith) lt (omega arith) in
+      inr (lt, omega arith))
+      (eq-or-lt-of-le above)
 
   pub rest-within : (limit n : ℕ) → Within copy limit n → Within copy limit (n - 1)
   rest-within limit zero h = tt

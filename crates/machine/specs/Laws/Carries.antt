@@ -12,7 +12,7 @@ use Rattle.plain.specs.All.{All}
 use Rattle.plain.specs.Laws.All.{all-read, all-set, all-sets}
 use Rattle.numbers.specs.Bytes.{bytesOf}
 use Rattle.numbers.specs.Laws.Bytes.{Bytes, number-below, bytes-first}
-use Rattle.links.specs.Fits.{Cell, LinksFit}
+use Rattle.links.specs.Fits.{CellFits, LinksFit}
 use Rattle.links.specs.Laws.Carries.{ActFits, frame-in-view, level-in-view, act-fits}
 use Rattle.word.specs.Dispatch.{twoCellsOf}
 use Rattle.word.specs.Laws.Fits.{CellsFit, one-fits, two-fit}
@@ -34,7 +34,7 @@ use Rattle.machine.specs.declared.Machine.{Machine}
 use Rattle.machine.specs.declared.Width.{Width}
 use Rattle.machine.specs.declared.Width.the-variants.{Byte, Word, Long}
 use Rattle.machine.specs.declared.Place.{Place}
-use Rattle.machine.specs.declared.Place.the-variants.{Memory, Local, Cell as CellPlace, Nowhere}
+use Rattle.machine.specs.declared.Place.the-variants.{Memory, Local, Cell, Nowhere}
 
 -- what a run leaves exists
 abbrev pub ExistAfter : After → Type 0
@@ -42,8 +42,8 @@ ExistAfter a = Exist (a .memory) (a .ran .machine)
 
 -- what a row brings
 pub record RowFits (row : Row) : Type 0 where
-  pub puts-fit : All Cell (row .puts)
-  pub goes-fits : Cell (row .goes)
+  pub puts-fit : All CellFits (row .puts)
+  pub goes-fits : CellFits (row .goes)
   pub link-fits : ActFits (row .link)
   pub memory-fits : AllBytes (row .memory)
 
@@ -54,25 +54,25 @@ byte-list (suc n) v = subst AllBytes (sym (bytes-first n v)) (omega arith, byte-
 bytes-of : (l : List ℕ) → AllBytes l → Bytes l
 bytes-of l h i = all-read (λ b. b < 2 ^ 8) l h i 0 (omega arith)
 
-width-below : (w : Width) (n : ℕ) → n < 2 ^ (8 * size w) → Cell n
+width-below : (w : Width) (n : ℕ) → n < 2 ^ (8 * size w) → CellFits n
 width-below Byte n h = omega arith
 width-below Word n h = omega arith
 width-below Long n h = omega arith
 
-module _ (i : Instruction) (mem : List ℕ) (m : Machine) (operand-fits : Cell (i .operand)) (next-fits : Cell (i .next))
+module _ (i : Instruction) (mem : List ℕ) (m : Machine) (operand-fits : CellFits (i .operand)) (next-fits : CellFits (i .next))
     (bytes : AllBytes mem) (whole : Whole m) (formed : Formed m) (h : Fits m) where
-  cell-at : (n : ℕ) → Cell (getD (m .cells) n 0)
-  cell-at n = all-read Cell (m .cells) (h .cells-fit) n 0 (omega arith)
+  cell-at : (n : ℕ) → CellFits (getD (m .cells) n 0)
+  cell-at n = all-read CellFits (m .cells) (h .cells-fit) n 0 (omega arith)
 
-  picked : (b : Bool) (x y : ℕ) → Cell x → Cell y → Cell (pick b x y)
+  picked : (b : Bool) (x y : ℕ) → CellFits x → CellFits y → CellFits (pick b x y)
   picked true x y hx hy = hx
   picked false x y hx hy = hy
 
-  picked-all : (b : Bool) (xs ys : List ℕ) → All Cell xs → All Cell ys → All Cell (pick b xs ys)
+  picked-all : (b : Bool) (xs ys : List ℕ) → All CellFits xs → All CellFits ys → All CellFits (pick b xs ys)
   picked-all true xs ys hx hy = hx
   picked-all false xs ys hx hy = hy
 
-  shuffled-fit : (o : Shuffle) → All Cell (shuffled i mem m o)
+  shuffled-fit : (o : Shuffle) → All CellFits (shuffled i mem m o)
   shuffled-fit NOP = tt
   shuffled-fit DROP = tt
   shuffled-fit DUP = (cell-at _, (cell-at _, tt))
@@ -84,16 +84,16 @@ module _ (i : Instruction) (mem : List ℕ) (m : Machine) (operand-fits : Cell (
   shuffled-fit ZERO = (omega arith, tt)
   shuffled-fit DUP-NONZERO = picked-all (eqb (top m) 0) (top m ∷ []) (top m ∷ top m ∷ []) (cell-at _, tt) (cell-at _, (cell-at _, tt))
 
-  target-fits : (o : Jump) → Cell (target i mem m o)
+  target-fits : (o : Jump) → CellFits (target i mem m o)
   target-fits JMP = cell-at _
   target-fits BEQ = picked (eqb (top m) 0) (i .operand) (i .next) operand-fits next-fits
   target-fits BRA = operand-fits
 
-  stays-fit : (puts : List ℕ) → All Cell puts → RowFits (cells i mem m puts)
+  stays-fit : (puts : List ℕ) → All CellFits puts → RowFits (cells i mem m puts)
   stays-fit puts p = record { puts-fit = p; goes-fits = next-fits; link-fits = tt; memory-fits = bytes }
 
-  return-fits : Cell (topReturn m)
-  return-fits = all-read Cell (m .links .returns) (h .links-fit .returns-fit) (m .links .r - 1) 0 (omega arith)
+  return-fits : CellFits (topReturn m)
+  return-fits = all-read CellFits (m .links .returns) (h .links-fit .returns-fit) (m .links .r - 1) 0 (omega arith)
 
   throw-fits : (b : Bool) → RowFits (pick b (cells i mem m []) (throwRow i mem m))
   throw-fits true = stays-fit [] tt
@@ -129,16 +129,16 @@ module _ (i : Instruction) (mem : List ℕ) (m : Machine) (operand-fits : Cell (
   two-row-fits DivisorZero f = record { puts-fit = tt; goes-fits = next-fits; link-fits = tt; memory-fits = bytes }
 
   -- the cells in view
-  locals-fit : All Cell (localsInView m)
+  locals-fit : All CellFits (localsInView m)
   locals-fit = frame-in-view (m .links) (whole .shaped) (formed .sound) (h .links-fit) .locals-fit
 
-  cells-fit : All Cell (cellsInView m)
+  cells-fit : All CellFits (cellsInView m)
   cells-fit = level-in-view (m .links) (whole .shaped) (formed .sound) (h .links-fit) .cells-fit
 
   fetch-row-fits : (w : Width) (place : Place) → RowFits (fetchRow i mem m w place)
   fetch-row-fits w (Memory a) = stays-fit _ (width-below w _ (number-below (size w) mem a (bytes-of mem bytes)), tt)
-  fetch-row-fits w (Local k) = stays-fit _ (all-read Cell (localsInView m) locals-fit k 0 (omega arith), tt)
-  fetch-row-fits w (CellPlace k) = stays-fit _ (all-read Cell (cellsInView m) cells-fit k 0 (omega arith), tt)
+  fetch-row-fits w (Local k) = stays-fit _ (all-read CellFits (localsInView m) locals-fit k 0 (omega arith), tt)
+  fetch-row-fits w (Cell k) = stays-fit _ (all-read CellFits (cellsInView m) cells-fit k 0 (omega arith), tt)
   fetch-row-fits w Nowhere = record { puts-fit = tt; goes-fits = next-fits; link-fits = tt; memory-fits = bytes }
 
   store-row-fits : (w : Width) (place : Place) → RowFits (storeRow i mem m w place)
@@ -155,13 +155,13 @@ module _ (i : Instruction) (mem : List ℕ) (m : Machine) (operand-fits : Cell (
         goes-fits = next-fits;
         link-fits = (
           length-set (localsInView m) k (second m) ∙ frame-in-view (m .links) (whole .shaped) (formed .sound) (h .links-fit) .locals-long,
-          all-set Cell (localsInView m) locals-fit k (second m) (cell-at _),
+          all-set CellFits (localsInView m) locals-fit k (second m) (cell-at _),
           level-in-view (m .links) (whole .shaped) (formed .sound) (h .links-fit) .cells-long,
           cells-fit,
         );
         memory-fits = bytes;
       }
-  store-row-fits w (CellPlace k) =
+  store-row-fits w (Cell k) =
       record {
         puts-fit = tt;
         goes-fits = next-fits;
@@ -169,7 +169,7 @@ module _ (i : Instruction) (mem : List ℕ) (m : Machine) (operand-fits : Cell (
           frame-in-view (m .links) (whole .shaped) (formed .sound) (h .links-fit) .locals-long,
           locals-fit,
           length-set (cellsInView m) k (second m) ∙ level-in-view (m .links) (whole .shaped) (formed .sound) (h .links-fit) .cells-long,
-          all-set Cell (cellsInView m) cells-fit k (second m) (cell-at _),
+          all-set CellFits (cellsInView m) cells-fit k (second m) (cell-at _),
         );
         memory-fits = bytes;
       }
@@ -197,7 +197,7 @@ operands-small : Everywhere (λ code e. smallOperand (e .operand))
 unfolding table
 operands-small = record { in-table = tt; past = λ code. tt; branches = λ code. (tt, tt) }
 
-operand-below : (o : Operand) (mem : List ℕ) (a : ℕ) → T (smallOperand o) → Bytes mem → Cell (operandAt o mem a)
+operand-below : (o : Operand) (mem : List ℕ) (a : ℕ) → T (smallOperand o) → Bytes mem → CellFits (operandAt o mem a)
 operand-below none mem a t bytes = omega arith
 operand-below (number n) mem a t bytes =
     let short : n ≤ 4 = leb→le n 4 t in
@@ -218,7 +218,7 @@ step-carries mem m mem′ m′ k formed x e =
     let operand =
     operand-below (entryAt (i .code) .operand) mem (m .counter)
     (at-code (λ code e. smallOperand (e .operand)) operands-small (i .code)) (bytes-of mem (x .bytes)) in
-    let next : Cell (i .next) = omega arith in
+    let next : CellFits (i .next) = omega arith in
     let row = row-fits i mem m operand next (x .bytes) (x .whole) formed h (entryAt (i .code) .op) in
     let links-fit =
     act-fits (m .links) (x .whole .shaped) (formed .sound) (h .links-fit) (rowAt mem m .link) (row .link-fits) (allowed-at mem m mem′ m′ k formed d) in
@@ -227,11 +227,11 @@ step-carries mem m mem′ m′ k formed x e =
       fits =
           record {
             cells-fit =
-                subst (λ (y : Machine). All Cell (y .cells)) (sym (d .machine))
-                (all-sets Cell (m .cells) (h .cells-fit) (rowAt mem m .keeps) (rowAt mem m .puts) (row .puts-fit));
+                subst (λ (y : Machine). All CellFits (y .cells)) (sym (d .machine))
+                (all-sets CellFits (m .cells) (h .cells-fit) (rowAt mem m .keeps) (rowAt mem m .puts) (row .puts-fit));
             p-fits = omega (arith, g .formed .p-within);
             links-fit = subst (λ (y : Machine). LinksFit (y .links)) (sym (d .machine)) links-fit;
-            counter-fits = subst (λ (y : Machine). Cell (y .counter)) (sym (d .machine)) (row .goes-fits);
+            counter-fits = subst (λ (y : Machine). CellFits (y .counter)) (sym (d .machine)) (row .goes-fits);
             flag-fits = omega (arith, g .formed .flag-within);
           };
       bytes = subst AllBytes (sym (d .memory)) (row .memory-fits);

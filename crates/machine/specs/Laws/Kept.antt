@@ -41,17 +41,17 @@ unfolding wellFormed
 formed-true m h = rw (le-leb (m .p) cellsDepth (h .p-within), le-leb (m .flag) 1 (h .flag-within)) (linked-true (m .links) (h .sound))
 
 -- the row at the program counter is fair
-pub fair-at : (mem : List ℕ) (m : Machine) → Formed m →
+pub fair-at : (mem : List ℕ) (m : Machine) →
     Fair (instructionAt mem (m .counter)) m mem (entryAt (instructionAt mem (m .counter) .code) .op) (rowAt mem m)
-fair-at mem m h =
-    fair (instructionAt mem (m .counter)) mem m (h .flag-within) (entryAt (instructionAt mem (m .counter) .code) .op)
+fair-at mem m =
+    fair (instructionAt mem (m .counter)) mem m (entryAt (instructionAt mem (m .counter) .code) .op)
 
 -- a step that is done carries out an action that the linked stacks allow
 pub allowed-at : (mem : List ℕ) (m : Machine) (mem′ : List ℕ) (m′ : Machine) (k : ℕ) → Formed m → Done mem m mem′ m′ k →
     Allowed (rowAt mem m .link) (m .links)
 allowed-at mem m mem′ m′ k h d =
     granted (instructionAt mem (m .counter)) m (rowAt mem m) (h .p-within) (d .passed) (rowAt mem m .link) refl
-    (fair-at mem m h .tells)
+    (fair-at mem m .tells)
 
 -- what a step leaves: whole, well formed, and the memory as long as it was
 pub record Good (mem mem′ : List ℕ) (m′ : Machine) : Type 0 where
@@ -63,7 +63,7 @@ put-good : (mem : List ℕ) (m : Machine) (mem′ : List ℕ) (m′ : Machine) (
     Good mem (rowAt mem m .memory) (put (rowAt mem m) m)
 put-good mem m mem′ m′ k w h d =
     let row = rowAt mem m in
-    let f = fair-at mem m h in
+    let f = fair-at mem m in
     record {
       whole =
           record {
@@ -73,7 +73,7 @@ put-good mem m mem′ m′ k w h d =
       formed =
           record {
             p-within = ltb-false cellsDepth (row .keeps + length (row .puts)) (passed-at 8 (testsAt mem m) (d .passed));
-            flag-within = f .flag-within;
+            flag-within = f .flag-within (h .flag-within);
             sound = kept (row .link) (m .links) (w .shaped) (h .sound) (allowed-at mem m mem′ m′ k h d);
           };
       same-length = f .same-length;

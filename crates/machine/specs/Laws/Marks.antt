@@ -3,11 +3,12 @@ use mathlib.Core.Path.{_≡_, sym, subst}
 use mathlib.Core.Bool.{Bool, true}
 use Prim.Native.Nat.{ℕ, _≤_}
 use lib.Dec.{T, eqb, eqb→eq, lit≤}
+use Rattle.plain.specs.Choice.{pick, decided}
 use Rattle.word.specs.declared.OneCell.{OneCell}
 use Rattle.word.specs.declared.OneCell.the-variants.{Negate, Increment, Decrement, Halve, ZeroEqual, ZeroUnequal, ZeroLess, ZeroGreater, Invert, ShiftLeft, ShiftRight, ExtendByte, ExtendWord}
 use Rattle.word.specs.declared.TwoCells.{TwoCells}
 use Rattle.word.specs.declared.TwoCells.the-variants.{Plus, Minus, AddExtended, SubtractExtended, Equal, Unequal, Less, Greater, Below, Above, AndBits, OrBits, XorBits, MultiplySigned, MultiplyUnsigned, DivideSigned, DivideUnsigned}
-use Rattle.machine.specs.Codes.{Link, >R, R-AT, R>, CATCH, RESETSP, THROW, JSL, JSR, EXIT, Op, SHUFFLE, JUMP, LINK, ONE, TWO, FETCH, STORE, LITERAL, table, entryAt}
+use Rattle.machine.specs.Codes.{DUP-NONZERO, Shuffle-discrete, Link, >R, R-AT, R>, CATCH, RESETSP, THROW, JSL, JSR, EXIT, Op, SHUFFLE, JUMP, LINK, ONE, TWO, FETCH, STORE, LITERAL, table, entryAt}
 use Rattle.machine.specs.Laws.Tables.{Everywhere, at-code}
 
 -- where they stand
@@ -56,9 +57,9 @@ codeOfTwo MultiplyUnsigned = 0x2A
 codeOfTwo DivideSigned = 0x2B
 codeOfTwo DivideUnsigned = 0x2C
 
--- an entry of one of them stands at its code
+-- an entry of one of them stands at its code; so does ?DUP
 atCode : ℕ → Op → Bool
-atCode code (SHUFFLE o) = true
+atCode code (SHUFFLE o) = pick (decided (Shuffle-discrete o DUP-NONZERO)) (eqb code 0x33) true
 atCode code (JUMP o) = true
 atCode code (LINK o) = eqb code (codeOf o)
 atCode code (ONE o) = eqb code (codeOfOne o)
@@ -86,6 +87,10 @@ marked-one code o is = eqb→eq code (codeOfOne o) (stands-at code (ONE o) is)
 pub marked-two : (code : ℕ) (o : TwoCells) → entryAt code .op ≡ TWO o → code ≡ codeOfTwo o
 unfolding atCode
 marked-two code o is = eqb→eq code (codeOfTwo o) (stands-at code (TWO o) is)
+
+pub marked-dup : (code : ℕ) → entryAt code .op ≡ SHUFFLE DUP-NONZERO → code ≡ 0x33
+unfolding atCode
+marked-dup code is = eqb→eq code 0x33 (stands-at code (SHUFFLE DUP-NONZERO) is)
 
 -- CATCH takes a cell
 pub catch-takes : (code : ℕ) → entryAt code .op ≡ LINK CATCH → 1 ≤ entryAt code .takes

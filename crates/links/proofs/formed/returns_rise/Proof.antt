@@ -1,10 +1,10 @@
--- What is left of the test equals the whole test at every turn; the levels left are the measure.
+-- What is left of the test equals the whole test at every pass; the levels left are the measure.
 use mathlib.Core.Path.{_≡_}
+use Prim.Native.Nat.{_≤_}
 use borrow.Author.Needs.{needs}
 use Rattle.links.specs.Depths.{subroutinesDepth}
 use Rattle.links.specs.Linked.{copyOfR, rises}
 use Rattle.links.proofs.Descent.{rises-stops, rises-goes, rises-ends}
-use Prim.Native.Nat.{_≤_}
 use Rattle.links.proofs.formed.returns_rise.Statement.{statement}
 use Rattle.links.proofs.formed.returns_rise.Tie as tie
 
@@ -14,57 +14,21 @@ Inv-loop r s frames top₀ n₀ top n = (n ≤ subroutinesDepth) × (rises (copy
 abbrev μ-loop : tie.MeasureT-loop
 μ-loop r s frames top₀ n₀ top n = n
 
-loop-holds : tie.Need-loop-holds Inv-loop μ-loop
-loop-holds c = search needs
-
-mul-frame : tie.Need-mul-frame Inv-loop μ-loop
-mul-frame c = search needs
-
-array-copy-out-frame : tie.Need-array-copy-out-frame Inv-loop μ-loop
-array-copy-out-frame c = search needs
-
-returns : tie.Need-returns Inv-loop μ-loop
-returns c =
-    rises-stops
-    (copyOfR (c .before .before .before .before .before .args .t1))
-    (c .before .before .before .before .loop .top)
-    (c .before .before .before .before .loop .n)
-    (search needs)
-    (c .if1 .taken)
-    (c .before .before .before .before .loop .inv .1)
-
-sub-n : tie.Need-sub-n Inv-loop μ-loop
-sub-n c = search needs
-
-loop-less : tie.Need-loop-less Inv-loop μ-loop
-loop-less c = search needs
-
-loop-again : tie.Need-loop-again Inv-loop μ-loop
-loop-again c = (
-  search needs,
-  rises-goes
-      (copyOfR (c .before .before .before .before .before .args .t1))
-      (c .before .before .before .before .loop .top)
-      (c .before .before .before .before .loop .n)
-      (search needs)
-      (c .if1 .left)
-      (c .before .before .before .before .loop .inv .1),
-)
-
-returns-2 : tie.Need-returns-2 Inv-loop μ-loop
-returns-2 c = rises-ends (copyOfR (c .before .before .args .t1)) (c .before .loop .top) (c .before .loop .n) (search needs) (c .before .loop .inv .1)
-
 pub returns-rise-spec : {M : Type 1} → statement M
 returns-rise-spec =
     tie.close
     (tie.spec
     Inv-loop
     μ-loop
-    loop-holds
-    mul-frame
-    array-copy-out-frame
-    returns
-    sub-n
-    loop-less
-    loop-again
-    returns-2)
+    (λ c. search needs)
+    (λ c. search needs)
+    (λ c. search needs)
+    (λ c. search (needs, rises-stops))
+    (λ c. search needs)
+    (λ c. search needs)
+    (λ c. (
+      search needs,
+      rises-goes (copyOfR (c .before .before .before .before .before .args .t1)) _ _ (search needs) (c .if1 .left)
+          (c .before .before .before .before .loop .inv .1),
+    ))
+    (λ c. search (needs, rises-ends)))
