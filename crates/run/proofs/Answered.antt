@@ -3,6 +3,7 @@ use mathlib.Core.Path.{_≡_, refl, ap, sym, _∙_}
 use mathlib.Core.Bool.{Bool, true, false}
 use mathlib.Core.List.{List}
 use Prim.Native.Nat.{ℕ}
+use native.Mathlib.Omega.{arith}
 use Rattle.plain.specs.Answer.{Answer, refuses, gives}
 use Rattle.plain.specs.Choice.{pick}
 use Rattle.machine.specs.Fetch.{Instruction}
@@ -19,6 +20,10 @@ module _ {A : Type 0} {i : Instruction} {mem : List ℕ} {m : Machine} {said : A
 
   pub by-refusal : {number : ℕ} → said ≡ refuses number → carried i mem m ≡ refused number
   by-refusal e = acts .is ∙ ap (λ (x : Answer A). stepBy x after) e
+
+-- two answers that differ
+pub apart : {A : Type 0} → _≡_ {A = ℕ} 0 1 → A
+apart z = absurd (omega arith)
 
 -- an answer that is known at one of its cases says what the case says
 pub told : {E A : Type 0} (says : E → Answer A) {answer known : E} {said : Answer A} → says answer ≡ said → answer ≡ known → said ≡ says known

@@ -18,7 +18,6 @@ use Rattle.links.specs.Actions.{calledFrame}
 use Rattle.links.specs.Linked.{noFrame, noLevel, frameAt, levelAt, copyOfR, copyOfS, copyOfP}
 use Rattle.links.specs.declared.Frame.{Frame}
 use Rattle.links.specs.declared.Level.{Level}
-use Rattle.links.specs.declared.Links.{Links}
 use Rattle.machine.specs.Codes.{entryAt, table, cyclesOf, LINK, THROW, FETCH, STORE}
 use Rattle.machine.specs.Memory.{size, placeOf}
 use Rattle.machine.specs.Rows.{nothing, aReturnCell, aPlace, aDivisor, Lack-discrete, rowOf}
@@ -30,7 +29,7 @@ use Rattle.machine.specs.declared.Place.{Place}
 use Rattle.machine.specs.declared.Place.the-variants.{Memory, Local, Cell, Nowhere}
 use Rattle.run.specs.Accesses.{widthOf, spotOf, reachOf}
 use Rattle.run.specs.Answers.{stepBy}
-use Rattle.run.specs.Machines.{machineOf, linksOf, inside}
+use Rattle.run.specs.Machines.{inside}
 use Rattle.run.specs.Promises.{Carries, Spells, Unaltered}
 use Rattle.run.specs.Registers.{machineIn, movedTo, haltedBy}
 use Rattle.run.specs.Verdicts.{pushable, readable, callable, catchable, throwable, exitable, sAfterPop, eAfterDropOf, eAfterPop}
@@ -88,9 +87,6 @@ module _ {mem₀ : List ℕ} {m₀ : Machine} {budget : ℕ} {mem cells returns 
   where
     abbrev here : Machine
     here = machineIn cells returns frames levels g
-
-    abbrev links : Links
-    links = linksOf returns (g .r) frames (g .s) levels (g .e)
 
     abbrev Does : {A : Type 0} → Answer A → (A → Stepped) → Type 0
     Does said after = Acts (inside code operand next) mem here said after
@@ -341,11 +337,11 @@ module _ {mem₀ : List ℕ} {m₀ : Machine} {budget : ℕ} {mem cells returns 
     pub cells-acts : (code ≡ 0x0D → ⊥) → {cells′ : List ℕ} {said : Answer Stack} → Carries code operand next cells (g .p) (g .flag) cells′ said →
         Does said (wentTo cells′ (cyclesOf code))
     cells-acts other {cells′} {said} carries =
-        record { is = carries mem links (g .counter) .0 ∙ ap (λ (price : ℕ). stepBy said (wentTo cells′ price)) (cost other) }
+        record { is = carries mem here .0 ∙ ap (λ (price : ℕ). stepBy said (wentTo cells′ price)) (cost other) }
 
     -- a refusal leaves the cells as they were
     pub cells-end : (code ≡ 0x0D → ⊥) → {cells′ : List ℕ} {said : Answer Stack} → Carries code operand next cells (g .p) (g .flag) cells′ said →
         {number : ℕ} → said ≡ refuses number → {g′ : Registers} → g′ ≡ haltedBy said g → Round mem₀ m₀ budget mem cells′ returns frames levels g′
     cells-end other {cells′} {said} carries e {g′} eg =
-        let same : cells′ ≡ cells = subst (Unaltered cells cells′) e (carries mem links (g .counter) .1) in
+        let same : cells′ ≡ cells = subst (Unaltered cells cells′) e (carries mem here .1) in
         subst⁻¹ (λ (l : List ℕ). Round mem₀ m₀ budget mem l returns frames levels g′) same (ends found (cells-acts other carries) e refl eg)

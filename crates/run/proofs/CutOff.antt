@@ -16,16 +16,13 @@ use Rattle.machine.specs.Codes.{EXIT, bytesWith, entryAt, table}
 use Rattle.machine.specs.Fetch.{Instruction, instructionAt}
 use Rattle.machine.specs.Checks.{aFrame, needs, among, wants}
 use Rattle.machine.specs.Step.{refused, carried, rowAt, stepOf}
-use Rattle.machine.specs.Laws.Kept.{Formed, fair-at}
+use Rattle.machine.specs.Laws.Kept.{fair-at}
 use Rattle.machine.specs.Laws.Marks.{marked}
 use Rattle.machine.specs.Laws.Told.{Tells}
 use Rattle.machine.specs.declared.Machine.{Machine}
 use Rattle.run.specs.Machines.{inside}
 use Rattle.run.specs.Promises.{fetchedOf}
-
--- two answers that differ
-apart : {A : Type 0} → _≡_ {A = ℕ} 0 1 → A
-apart z = absurd (omega arith)
+use Rattle.run.proofs.Answered.{apart}
 
 -- what is fetched is the instruction that stands there
 inside-of : (i j : Instruction) → fetchedOf i ≡ gives j → i ≡ j
@@ -67,15 +64,15 @@ no-exit mem m long out e = go (ltb (m .counter) memoryLength) refl out
         omega arith
 
 -- test 0 does not hold where a byte is outside memory
-not-finished : (mem : List ℕ) (m : Machine) → Formed m → length mem ≡ memoryLength → instructionAt mem (m .counter) .outside ≡ true →
+not-finished : (mem : List ℕ) (m : Machine) → length mem ≡ memoryLength → instructionAt mem (m .counter) .outside ≡ true →
     wants (rowAt mem m) aFrame ≡ false
 unfolding instructionAt
-not-finished mem m formed long out = go (rowAt mem m .link) refl
+not-finished mem m long out = go (rowAt mem m .link) refl
   where
     code-is : rowAt mem m .link ≡ exit → byteAt mem (m .counter) ≡ 0x3D
     code-is h =
         marked (byteAt mem (m .counter)) EXIT
-        (subst (λ (a : Act). Tells (instructionAt mem (m .counter)) m (entryAt (byteAt mem (m .counter)) .op) (rowAt mem m) a) h (fair-at mem m formed .tells))
+        (subst (λ (a : Act). Tells (instructionAt mem (m .counter)) m (entryAt (byteAt mem (m .counter)) .op) (rowAt mem m) a) h (fair-at mem m .tells))
 
     go : (a : Act) → rowAt mem m .link ≡ a → among aFrame (needs a) ≡ false
     go still h = refl
@@ -89,14 +86,14 @@ not-finished mem m formed long out = go (rowAt mem m .link) refl
     go reset h = refl
 
 -- a byte of the instruction is outside memory: the step is refused with what fetching answers
-pub cut-off : (mem : List ℕ) (m : Machine) (k : ℕ) → Formed m → length mem ≡ memoryLength →
+pub cut-off : (mem : List ℕ) (m : Machine) (k : ℕ) → length mem ≡ memoryLength →
     fetchedOf (instructionAt mem (m .counter)) ≡ refuses k → stepOf mem m ≡ refused k
 unfolding stepOf carried
-cut-off mem m k formed long e = go (instructionAt mem (m .counter) .outside) refl e
+cut-off mem m k long e = go (instructionAt mem (m .counter) .outside) refl e
   where
     go : (b : Bool) → instructionAt mem (m .counter) .outside ≡ b →
         pick b (refuses 3) (gives (instructionAt mem (m .counter))) ≡ refuses k → stepOf mem m ≡ refused k
     go true h e =
         let three : 3 ≡ k = cc in
-        rw (not-finished mem m formed long h, h, three)
+        rw (not-finished mem m long h, h, three)
     go false h e = apart cc

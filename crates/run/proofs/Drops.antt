@@ -34,10 +34,7 @@ module _ (lower e : ℕ) (levels : List Level) where
   drop-same = fallen e (leb lower (copyOfS levels e))
 
 module _ (r s : ℕ) (frames : List Frame) where
-  -- R> lowers R by one; whether that drops a level
-  abbrev drops : Bool
-  drops = both (ltb 0 s) (leb (r - 1) (copyOfR frames s))
-
+  -- R> lowers R by one
   pub pop-s : sAfterPop (r - 1) s (copyOfR frames s) ≡ pick (both (ltb 0 s) (leb (r - 1) (copyOfR frames s))) (s - 1) s
   unfolding sAfterPop
   pop-s = fallen s (leb (r - 1) (copyOfR frames s))

@@ -9,6 +9,7 @@ use lib.ListN.{getD, set}
 use lib.Seq.{set-getD}
 use Rattle.plain.specs.Choice.{pick}
 use Rattle.plain.specs.Answer.{refuses, gives}
+use Rattle.links.specs.Depths.{cellsDepth}
 use Rattle.machine.specs.Rows.{rowOf}
 use Rattle.machine.specs.Codes.{SHUFFLE, DUP-NONZERO, JUMP, JMP, BEQ, BRA}
 use Rattle.run.specs.Promises.{Meets, pushed, pushedCells}
@@ -20,54 +21,54 @@ module _ (operand next : ℕ) (cells : List ℕ) (p flag : ℕ) where
   unfolding rowOf
   dup-nonzero-few =
       few (SHUFFLE DUP-NONZERO) 1 operand next cells p flag (p - 1) (pick (eqb (getD cells (p - 1) 0) 0) (getD cells (p - 1) 0 ∷ []) (getD cells (p - 1) 0 ∷ getD cells (p - 1) 0 ∷ [])) next flag
-      (λ code e mem links counter. rw (e .asks))
+      (λ code e mem rest. rw (e .asks))
 
-  pub dup-nonzero-zero : eqb (getD cells (p - 1) 0) 0 ≡ true → 1 ≤ p → p ≤ 64 →
+  pub dup-nonzero-zero : eqb (getD cells (p - 1) 0) 0 ≡ true → 1 ≤ p → p ≤ cellsDepth →
       Meets (SHUFFLE DUP-NONZERO) 1 operand next cells p flag cells (gives (record { p = p; flag = flag; counter = next }))
   unfolding rowOf
   dup-nonzero-zero isZero h top =
       went (SHUFFLE DUP-NONZERO) 1 operand next cells p flag (p - 1) (getD cells (p - 1) 0 ∷ []) next flag
-      (λ code e mem links counter. rw (e .asks, isZero))
+      (λ code e mem rest. rw (e .asks, isZero))
       cells p h top (set-getD cells (p - 1) 0) (omega arith)
 
-  pub dup-nonzero-pushed : eqb (getD cells (p - 1) 0) 0 ≡ false → 1 ≤ p → p ≤ 64 →
+  pub dup-nonzero-pushed : eqb (getD cells (p - 1) 0) 0 ≡ false → 1 ≤ p → p ≤ cellsDepth →
       Meets (SHUFFLE DUP-NONZERO) 1 operand next cells p flag (pushedCells cells p (getD cells (p - 1) 0)) (pushed p flag next)
   unfolding rowOf
   dup-nonzero-pushed notZero h top =
       by-push (SHUFFLE DUP-NONZERO) 1 operand next cells p flag (p - 1) (getD cells (p - 1) 0 ∷ getD cells (p - 1) 0 ∷ []) next flag
-      (λ code e mem links counter. rw (e .asks, notZero))
+      (λ code e mem rest. rw (e .asks, notZero))
       (getD cells (p - 1) 0) refl refl h top (rewritten operand next cells p flag h (getD cells (p - 1) 0)) (omega arith)
 
   pub jump-few : p < 1 → Meets (JUMP JMP) 1 operand next cells p flag cells (refuses 5)
   unfolding rowOf
   jump-few =
-      few (JUMP JMP) 1 operand next cells p flag (p - 1) [] (getD cells (p - 1) 0) flag (λ code e mem links counter. rw (e .asks))
+      few (JUMP JMP) 1 operand next cells p flag (p - 1) [] (getD cells (p - 1) 0) flag (λ code e mem rest. rw (e .asks))
 
-  pub jump-went : 1 ≤ p → p ≤ 64 →
+  pub jump-went : 1 ≤ p → p ≤ cellsDepth →
       Meets (JUMP JMP) 1 operand next cells p flag cells (gives (record { p = p - 1; flag = flag; counter = getD cells (p - 1) 0 }))
   unfolding rowOf
   jump-went h top =
       went (JUMP JMP) 1 operand next cells p flag (p - 1) [] (getD cells (p - 1) 0) flag
-      (λ code e mem links counter. rw (e .asks))
+      (λ code e mem rest. rw (e .asks))
       cells (p - 1) h (omega arith) refl (omega arith)
 
   pub beq-few : p < 1 → Meets (JUMP BEQ) 1 operand next cells p flag cells (refuses 5)
   unfolding rowOf
   beq-few =
       few (JUMP BEQ) 1 operand next cells p flag (p - 1) [] (pick (eqb (getD cells (p - 1) 0) 0) operand next) flag
-      (λ code e mem links counter. rw (e .asks))
+      (λ code e mem rest. rw (e .asks))
 
-  pub beq-went : (b : Bool) → eqb (getD cells (p - 1) 0) 0 ≡ b → 1 ≤ p → p ≤ 64 →
+  pub beq-went : (b : Bool) → eqb (getD cells (p - 1) 0) 0 ≡ b → 1 ≤ p → p ≤ cellsDepth →
       Meets (JUMP BEQ) 1 operand next cells p flag cells (gives (record { p = p - 1; flag = flag; counter = pick b operand next }))
   unfolding rowOf
   beq-went b test h top =
       went (JUMP BEQ) 1 operand next cells p flag (p - 1) [] (pick b operand next) flag
-      (λ code e mem links counter. rw (e .asks, test))
+      (λ code e mem rest. rw (e .asks, test))
       cells (p - 1) h (omega arith) refl (omega arith)
 
-  pub bra-went : p ≤ 64 → Meets (JUMP BRA) 0 operand next cells p flag cells (gives (record { p = p; flag = flag; counter = operand }))
+  pub bra-went : p ≤ cellsDepth → Meets (JUMP BRA) 0 operand next cells p flag cells (gives (record { p = p; flag = flag; counter = operand }))
   unfolding rowOf
   bra-went top =
       went (JUMP BRA) 0 operand next cells p flag (p - 0) [] operand flag
-      (λ code e mem links counter. rw (e .asks))
+      (λ code e mem rest. rw (e .asks))
       cells p (omega arith) top refl (omega arith)

@@ -12,19 +12,19 @@ use Rattle.plain.specs.Choice.{pick}
 use Rattle.plain.specs.Answer.{refuses, gives}
 use Rattle.links.specs.Depths.{cellsDepth}
 use Rattle.links.specs.Actions.{still}
-use Rattle.links.specs.declared.Links.{Links}
 use Rattle.machine.specs.Codes.{Op}
 use Rattle.machine.specs.Rows.{make, rowOf, nothing}
 use Rattle.machine.specs.Step.{carried}
-use Rattle.run.specs.Machines.{machineOf, inside}
+use Rattle.machine.specs.declared.Machine.{Machine}
+use Rattle.run.specs.Machines.{withStack, inside}
 use Rattle.run.specs.Promises.{Spells, Meets, pushed, pushedCells}
 
 -- the row of an instruction that leaves links and memory alone and asks for nothing
 abbrev pub Plain : Op → ℕ → ℕ → ℕ → List ℕ → ℕ → ℕ → ℕ → List ℕ → ℕ → ℕ → Type 0
 Plain op takes operand next cells p flag keeps values goes flag′ =
     (code : ℕ) → Spells code op takes →
-    (mem : List ℕ) (links : Links) (counter : ℕ) →
-    rowOf (inside code operand next) mem (machineOf cells p links counter flag) op ≡
+    (mem : List ℕ) (rest : Machine) →
+    rowOf (inside code operand next) mem (withStack cells p (rest .counter) flag rest) op ≡
     make keeps values still goes flag′ mem nothing
 
 module _ (op : Op) (takes operand next : ℕ) (cells : List ℕ) (p flag keeps : ℕ) (values : List ℕ) (goes flag′ : ℕ)
@@ -32,28 +32,28 @@ module _ (op : Op) (takes operand next : ℕ) (cells : List ℕ) (p flag keeps :
   -- fewer cells than it takes: test 5
   pub few : p < takes → Meets op takes operand next cells p flag cells (refuses 5)
   unfolding carried
-  few h code e mem links counter =
-      (rw (e .names, plain code e mem links counter, e .known, e .asks, lt-ltb p takes h), refl)
+  few h code e mem rest =
+      (rw (e .names, plain code e mem rest, e .known, e .asks, lt-ltb p takes h), refl)
 
   -- P would pass 64: test 8
-  many : takes ≤ p → 64 < keeps + length values → Meets op takes operand next cells p flag cells (refuses 8)
+  many : takes ≤ p → cellsDepth < keeps + length values → Meets op takes operand next cells p flag cells (refuses 8)
   unfolding carried
-  many h g code e mem links counter =
-      (rw (e .names, plain code e mem links counter, e .known, e .asks, le-ltb p takes h, lt-ltb 64 (keeps + length values) g), refl)
+  many h g code e mem rest =
+      (rw (e .names, plain code e mem rest, e .known, e .asks, le-ltb p takes h, lt-ltb cellsDepth (keeps + length values) g), refl)
 
   -- it is carried out
-  pub went : (cells′ : List ℕ) (p′ : ℕ) → takes ≤ p → p′ ≤ 64 → sets cells keeps values ≡ cells′ → keeps + length values ≡ p′ →
+  pub went : (cells′ : List ℕ) (p′ : ℕ) → takes ≤ p → p′ ≤ cellsDepth → sets cells keeps values ≡ cells′ → keeps + length values ≡ p′ →
       Meets op takes operand next cells p flag cells′ (gives (record { p = p′; flag = flag′; counter = goes }))
   unfolding carried
-  went cells′ p′ h g same depth code e mem links counter =
-      let room : keeps + length values ≤ 64 = omega arith in (
+  went cells′ p′ h g same depth code e mem rest =
+      let room : keeps + length values ≤ cellsDepth = omega arith in (
         rw
-            (e .names, plain code e mem links counter, e .known, e .asks, le-ltb p takes h, le-ltb 64 (keeps + length values) room, same, depth),
+            (e .names, plain code e mem rest, e .known, e .asks, le-ltb p takes h, le-ltb cellsDepth (keeps + length values) room, same, depth),
         tt,
       )
 
   -- it is carried out by a push, unless P would pass 64
-  pub by-push : (v : ℕ) → flag′ ≡ flag → goes ≡ next → takes ≤ p → p ≤ 64 →
+  pub by-push : (v : ℕ) → flag′ ≡ flag → goes ≡ next → takes ≤ p → p ≤ cellsDepth →
       sets cells keeps values ≡ set cells p v → keeps + length values ≡ p + 1 →
       Meets op takes operand next cells p flag (pushedCells cells p v) (pushed p flag next)
   by-push v f g h top same depth = go (leb cellsDepth p) refl
@@ -62,10 +62,10 @@ module _ (op : Op) (takes operand next : ℕ) (cells : List ℕ) (p flag keeps :
           Meets op takes operand next cells p flag (pick b cells (set cells p v))
           (pick b (refuses 8) (gives (record { p = p + 1; flag = flag; counter = next })))
       go true e =
-          let over : 64 ≤ p = leb-true 64 p e in
+          let over : cellsDepth ≤ p = leb-true cellsDepth p e in
           many h (omega arith)
       go false e =
-          let room : p < 64 = leb-false 64 p e in
+          let room : p < cellsDepth = leb-false cellsDepth p e in
           subst
           (λ (x : ℕ). Meets op takes operand next cells p flag (set cells p v) (gives (record { p = p + 1; flag = x; counter = next })))
           f

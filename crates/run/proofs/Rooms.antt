@@ -22,10 +22,7 @@ use Rattle.run.specs.declared.Spot.the-variants as spot
 use Rattle.run.specs.declared.Throw.{Throw}
 use Rattle.run.specs.declared.Throw.the-variants.{Zero, Code}
 use Rattle.run.proofs.Drops.{positive}
-
--- two answers that differ
-apart : {A : Type 0} → _≡_ {A = ℕ} 0 1 → A
-apart z = absurd (omega arith)
+use Rattle.run.proofs.Answered.{apart}
 
 -- a chain of checks that gives something passed each of them
 passed : {A : Type 0} (b : Bool) (number : ℕ) (rest : Answer A) (values : A) → pick b (refuses number) rest ≡ gives values → (b ≡ false) × (rest ≡ gives values)

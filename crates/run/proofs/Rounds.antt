@@ -146,7 +146,7 @@ module _ {mem₀ : List ℕ} {m₀ : Machine} {budget : ℕ} where
           {g′ : Registers} → g′ ≡ haltedBy said g → Round mem₀ m₀ budget mem cells returns frames levels g′
       fetch-ends {said} ef {number} e eg =
           let now = round .going less .here in
-          over-with (cut-off mem here number (now .formed) (now .long) (sym ef ∙ e)) (eg ∙ ap (λ (a : Answer _). haltedBy a g) e)
+          over-with (cut-off mem here number (now .long) (sym ef ∙ e)) (eg ∙ ap (λ (a : Answer _). haltedBy a g) e)
 
 -- an instruction is fetched, with budget left
 pub record Found (mem₀ : List ℕ) (m₀ : Machine) (budget : ℕ) (mem cells returns : List ℕ) (frames : List Frame) (levels : List Level) (g : Registers)

@@ -43,4 +43,4 @@ either-way false e = refl
 pub unknown-refused : (code operand next p flag : ℕ) (cells : List ℕ) → entryAt code ≡ unknown →
     Carries code operand next cells p flag cells (refuses 4)
 unfolding rowOf carried
-unknown-refused code operand next p flag cells e mem links counter = (rw e, refl)
+unknown-refused code operand next p flag cells e mem rest = (rw e, refl)

@@ -1,4 +1,4 @@
--- the machine, an instruction and a result of their parts
+-- the linked stacks, an instruction and a result of their parts
 pub mod Machines
 -- what each answer enum says
 pub mod Answers

@@ -1,4 +1,4 @@
--- The machine, its linked stacks, an instruction and a result, each made of its parts.
+-- The linked stacks, an instruction and a result, each made of its parts.
 use mathlib.Core.Bool.{false}
 use mathlib.Core.List.{List}
 use Prim.Native.Nat.{ℕ}
@@ -11,13 +11,13 @@ use Rattle.machine.specs.declared.Steps.{Steps}
 use Rattle.machine.specs.declared.Cycles.{Cycles}
 use Rattle.machine.specs.declared.Ran.{Ran}
 
-abbrev pub machineOf : List ℕ → ℕ → Links → ℕ → ℕ → Machine
-machineOf cells p links counter flag =
-    record { cells = cells; p = p; links = links; counter = counter; flag = flag }
-
 abbrev pub linksOf : List ℕ → ℕ → List Frame → ℕ → List Level → ℕ → Links
 linksOf returns r frames s levels e =
     record { returns = returns; r = r; frames = frames; s = s; levels = levels; e = e }
+
+-- a machine with other parameter cells, depth, counter and flag
+abbrev pub withStack : List ℕ → ℕ → ℕ → ℕ → Machine → Machine
+withStack cells p counter flag m = record { cells = cells; p = p; links = m .links; counter = counter; flag = flag }
 
 -- an instruction all of whose bytes are in memory
 abbrev pub inside : ℕ → ℕ → ℕ → Instruction

@@ -8,13 +8,13 @@ use lib.ListN.{set}
 use Rattle.plain.specs.Answer.{Answer, refuses, gives}
 use Rattle.plain.specs.Choice.{pick}
 use Rattle.links.specs.Depths.{cellsDepth}
-use Rattle.links.specs.declared.Links.{Links}
 use Rattle.machine.specs.Codes.{Op, entryAt}
 use Rattle.machine.specs.Fetch.{Instruction, instructionAt}
 use Rattle.numbers.specs.Bytes.{byteAt}
 use Rattle.machine.specs.Step.{done, costOf, carried}
+use Rattle.machine.specs.declared.Machine.{Machine}
 use Rattle.run.specs.Answers.{stepBy}
-use Rattle.run.specs.Machines.{machineOf, inside}
+use Rattle.run.specs.Machines.{withStack, inside}
 use Rattle.run.specs.declared.Stack.{Stack}
 
 -- a fetched instruction, or 3 where a byte of it is outside memory
@@ -37,13 +37,13 @@ abbrev pub Unaltered : List ℕ → List ℕ → Answer Stack → Type 0
 Unaltered cells cells′ (refuses number) = cells′ ≡ cells
 Unaltered cells cells′ (gives at) = Unit {0}
 
--- an instruction on the parameter cells is carried out as defined, whatever the memory and the linked stacks hold
+-- an instruction on the parameter cells is carried out as defined, whatever the memory and the rest of the machine hold
 abbrev pub Carries : ℕ → ℕ → ℕ → List ℕ → ℕ → ℕ → List ℕ → Answer Stack → Type 0
 Carries code operand next cells p flag cells′ said =
-    (mem : List ℕ) (links : Links) (counter : ℕ) →
+    (mem : List ℕ) (rest : Machine) →
     let i = inside code operand next in
-    let m = machineOf cells p links counter flag in
-    (carried i mem m ≡ stepBy said (λ at. done mem (machineOf cells′ (at .p) links (at .counter) (at .flag)) (costOf i m))) ×
+    let m = withStack cells p (rest .counter) flag rest in
+    (carried i mem m ≡ stepBy said (λ at. done mem (withStack cells′ (at .p) (at .counter) (at .flag) rest) (costOf i m))) ×
     Unaltered cells cells′ said
 
 -- a code of this instruction, which takes so many cells

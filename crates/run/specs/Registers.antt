@@ -5,12 +5,18 @@ use Rattle.plain.specs.Answer.{Answer, refuses, gives}
 use Rattle.links.specs.declared.Frame.{Frame}
 use Rattle.links.specs.declared.Level.{Level}
 use Rattle.machine.specs.declared.Machine.{Machine}
-use Rattle.run.specs.Machines.{machineOf, linksOf}
+use Rattle.run.specs.Machines.{linksOf}
 use Rattle.run.specs.declared.Registers.{Registers}
 
 abbrev pub machineIn : List ℕ → List ℕ → List Frame → List Level → Registers → Machine
 machineIn cells returns frames levels g =
-    machineOf cells (g .p) (linksOf returns (g .r) frames (g .s) levels (g .e)) (g .counter) (g .flag)
+    record {
+      cells = cells;
+      p = g .p;
+      links = linksOf returns (g .r) frames (g .s) levels (g .e);
+      counter = g .counter;
+      flag = g .flag;
+    }
 
 -- P, R, S, E, the counter and the flag anew
 abbrev pub movedTo : Registers → ℕ → ℕ → ℕ → ℕ → ℕ → ℕ → Registers

@@ -1,15 +1,13 @@
-// Fetches and stores: where an access reaches is judged once; memory is read and written by width.
+// Where a fetch or a store reaches: judged once.
 use crate::Reached;
 use crate::Spot;
-use crate::bytes;
 use crate::place;
+use machine::Machine;
 use machine::Place;
 use machine::Width;
 ghost use mathlib.Core.Path.{_≡_};
-ghost use Prim.Native.Nat.{_+_, _≤_};
-ghost use lib.ListN.{length};
-ghost use Rattle.numbers.specs.Bytes.{numberAt};
-ghost use Rattle.machine.specs.Memory.{size};
+ghost use Prim.Native.Nat.{_≤_};
+ghost use Rattle.links.specs.Depths.{cellsDepth};
 ghost use Rattle.run.specs.Answers.{saysReached};
 ghost use Rattle.run.specs.Accesses.{widthOf, reachOf};
 
@@ -27,8 +25,8 @@ pub(crate) fn width_of(code: u8) -> Width
 }
 
 // The address is the top cell; a store has its value under it.
-pub(crate) fn reach(cells: &[u32; 64], takes: usize, width: Width, p: usize) -> Reached
-    requires { ⌜ (1 ≤ takes) × (p ≤ 64) ⌝ }
+pub(crate) fn reach(cells: &[u32; Machine::CELLS], takes: usize, width: Width, p: usize) -> Reached
+    requires { ⌜ (1 ≤ takes) × (p ≤ cellsDepth) ⌝ }
     ensures { λ r. ⌜ saysReached r ≡ reachOf takes width (now (cells .entry)) p ⌝ }
 {
     if p < takes {
@@ -40,16 +38,5 @@ pub(crate) fn reach(cells: &[u32; 64], takes: usize, width: Width, p: usize) -> 
         Place::Local(k) => Reached::At(Spot::Local(k)),
         Place::Cell(k) => Reached::At(Spot::Cell(k)),
         Place::Nowhere => Reached::Refused(12),
-    }
-}
-
-pub(crate) fn read_number(mem: &[u8], at: usize, width: Width) -> u32
-    requires { ⌜ at + size width ≤ length (now mem) ⌝ }
-    ensures { λ r. ⌜ r ≡ numberAt (size width) (now (mem .entry)) at ⌝ }
-{
-    match width {
-        Width::Byte => bytes::read_byte(mem, at),
-        Width::Word => bytes::read_word(mem, at),
-        Width::Long => bytes::read_long(mem, at),
     }
 }

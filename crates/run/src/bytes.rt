@@ -8,14 +8,14 @@ ghost use Rattle.numbers.specs.Bytes.{numberAt, bytesOf};
 ghost use Rattle.machine.specs.Fetch.{extended};
 ghost use Rattle.machine.specs.Memory.{size};
 
-pub(crate) fn read_byte(mem: &[u8], at: usize) -> u32
+fn read_byte(mem: &[u8], at: usize) -> u32
     requires { ⌜ at + 1 ≤ length (now mem) ⌝ }
     ensures { λ r. ⌜ r ≡ numberAt 1 (now (mem .entry)) at ⌝ }
 {
     numbers::one_byte(mem[at])
 }
 
-pub(crate) fn read_word(mem: &[u8], at: usize) -> u32
+fn read_word(mem: &[u8], at: usize) -> u32
     requires { ⌜ at + 2 ≤ length (now mem) ⌝ }
     ensures { λ r. ⌜ r ≡ numberAt 2 (now (mem .entry)) at ⌝ }
 {
@@ -29,11 +29,22 @@ pub(crate) fn read_triple(mem: &[u8], at: usize) -> u32
     numbers::three_bytes(mem[at], mem[at + 1], mem[at + 2])
 }
 
-pub(crate) fn read_long(mem: &[u8], at: usize) -> u32
+fn read_long(mem: &[u8], at: usize) -> u32
     requires { ⌜ at + 4 ≤ length (now mem) ⌝ }
     ensures { λ r. ⌜ r ≡ numberAt 4 (now (mem .entry)) at ⌝ }
 {
     numbers::four_bytes(mem[at], mem[at + 1], mem[at + 2], mem[at + 3])
+}
+
+pub(crate) fn read_number(mem: &[u8], at: usize, width: Width) -> u32
+    requires { ⌜ at + size width ≤ length (now mem) ⌝ }
+    ensures { λ r. ⌜ r ≡ numberAt (size width) (now (mem .entry)) at ⌝ }
+{
+    match width {
+        Width::Byte => read_byte(mem, at),
+        Width::Word => read_word(mem, at),
+        Width::Long => read_long(mem, at),
+    }
 }
 
 // Literals: the bytes are gathered in a small array first.

@@ -7,14 +7,15 @@ use word::Outcome;
 use word::TwoCells;
 ghost use mathlib.Core.Path.{_≡_};
 ghost use Prim.Native.Nat.{ℕ, _≤_};
+ghost use Rattle.links.specs.Depths.{cellsDepth};
 ghost use Rattle.machine.specs.Codes.{SHUFFLE, NOP, DROP, DUP, SWAP, OVER, NIP, ROT, PSP-AT, ZERO, DUP-NONZERO, ONE, TWO, LITERAL};
 ghost use Rattle.run.specs.Operations.{twoOf};
 ghost use Rattle.run.specs.Answers.{saysDone};
 ghost use Rattle.run.specs.Promises.{Meets, pushed, pushedCells};
 
 // ( -- value )
-fn push(cells: &mut [u32; 64], value: u32, p: usize, flag: u32, next: u32) -> Done
-    requires { ⌜ p ≤ 64 ⌝ }
+fn push(cells: &mut [u32; Machine::CELLS], value: u32, p: usize, flag: u32, next: u32) -> Done
+    requires { ⌜ p ≤ cellsDepth ⌝ }
     ensures { λ r. ⌜ (saysDone r ≡ pushed p flag next) × (now (cells .exit) ≡ pushedCells (now (cells .entry)) p value) ⌝ }
 {
     if Machine::CELLS <= p {
@@ -29,8 +30,8 @@ fn push(cells: &mut [u32; 64], value: u32, p: usize, flag: u32, next: u32) -> Do
 }
 
 // ( -- ) NOP
-pub(crate) fn nothing(cells: &mut [u32; 64], p: usize, flag: u32, next: u32) -> Done
-    requires { ⌜ p ≤ 64 ⌝ }
+pub(crate) fn nothing(cells: &mut [u32; Machine::CELLS], p: usize, flag: u32, next: u32) -> Done
+    requires { ⌜ p ≤ cellsDepth ⌝ }
     ensures { λ r. ⌜ ((operand : ℕ) → Meets (SHUFFLE NOP) 0 operand next (now (cells .entry)) p flag (now (cells .exit)) (saysDone r)) ⌝ }
 {
     Done::Went(Stack {
@@ -41,8 +42,8 @@ pub(crate) fn nothing(cells: &mut [u32; 64], p: usize, flag: u32, next: u32) -> 
 }
 
 // ( x -- )
-pub(crate) fn discard(cells: &mut [u32; 64], p: usize, flag: u32, next: u32) -> Done
-    requires { ⌜ p ≤ 64 ⌝ }
+pub(crate) fn discard(cells: &mut [u32; Machine::CELLS], p: usize, flag: u32, next: u32) -> Done
+    requires { ⌜ p ≤ cellsDepth ⌝ }
     ensures { λ r. ⌜ ((operand : ℕ) → Meets (SHUFFLE DROP) 1 operand next (now (cells .entry)) p flag (now (cells .exit)) (saysDone r)) ⌝ }
 {
     if p < 1 {
@@ -56,8 +57,8 @@ pub(crate) fn discard(cells: &mut [u32; 64], p: usize, flag: u32, next: u32) -> 
 }
 
 // ( x -- x x )
-pub(crate) fn dup(cells: &mut [u32; 64], p: usize, flag: u32, next: u32) -> Done
-    requires { ⌜ p ≤ 64 ⌝ }
+pub(crate) fn dup(cells: &mut [u32; Machine::CELLS], p: usize, flag: u32, next: u32) -> Done
+    requires { ⌜ p ≤ cellsDepth ⌝ }
     ensures { λ r. ⌜ ((operand : ℕ) → Meets (SHUFFLE DUP) 1 operand next (now (cells .entry)) p flag (now (cells .exit)) (saysDone r)) ⌝ }
 {
     if p < 1 {
@@ -68,8 +69,8 @@ pub(crate) fn dup(cells: &mut [u32; 64], p: usize, flag: u32, next: u32) -> Done
 }
 
 // ( x y -- y x )
-pub(crate) fn swap(cells: &mut [u32; 64], p: usize, flag: u32, next: u32) -> Done
-    requires { ⌜ p ≤ 64 ⌝ }
+pub(crate) fn swap(cells: &mut [u32; Machine::CELLS], p: usize, flag: u32, next: u32) -> Done
+    requires { ⌜ p ≤ cellsDepth ⌝ }
     ensures { λ r. ⌜ ((operand : ℕ) → Meets (SHUFFLE SWAP) 2 operand next (now (cells .entry)) p flag (now (cells .exit)) (saysDone r)) ⌝ }
 {
     if p < 2 {
@@ -87,8 +88,8 @@ pub(crate) fn swap(cells: &mut [u32; 64], p: usize, flag: u32, next: u32) -> Don
 }
 
 // ( x y -- x y x )
-pub(crate) fn over(cells: &mut [u32; 64], p: usize, flag: u32, next: u32) -> Done
-    requires { ⌜ p ≤ 64 ⌝ }
+pub(crate) fn over(cells: &mut [u32; Machine::CELLS], p: usize, flag: u32, next: u32) -> Done
+    requires { ⌜ p ≤ cellsDepth ⌝ }
     ensures { λ r. ⌜ ((operand : ℕ) → Meets (SHUFFLE OVER) 2 operand next (now (cells .entry)) p flag (now (cells .exit)) (saysDone r)) ⌝ }
 {
     if p < 2 {
@@ -99,8 +100,8 @@ pub(crate) fn over(cells: &mut [u32; 64], p: usize, flag: u32, next: u32) -> Don
 }
 
 // ( x y -- y )
-pub(crate) fn nip(cells: &mut [u32; 64], p: usize, flag: u32, next: u32) -> Done
-    requires { ⌜ p ≤ 64 ⌝ }
+pub(crate) fn nip(cells: &mut [u32; Machine::CELLS], p: usize, flag: u32, next: u32) -> Done
+    requires { ⌜ p ≤ cellsDepth ⌝ }
     ensures { λ r. ⌜ ((operand : ℕ) → Meets (SHUFFLE NIP) 2 operand next (now (cells .entry)) p flag (now (cells .exit)) (saysDone r)) ⌝ }
 {
     if p < 2 {
@@ -116,8 +117,8 @@ pub(crate) fn nip(cells: &mut [u32; 64], p: usize, flag: u32, next: u32) -> Done
 }
 
 // ( x y z -- y z x )
-pub(crate) fn rot(cells: &mut [u32; 64], p: usize, flag: u32, next: u32) -> Done
-    requires { ⌜ p ≤ 64 ⌝ }
+pub(crate) fn rot(cells: &mut [u32; Machine::CELLS], p: usize, flag: u32, next: u32) -> Done
+    requires { ⌜ p ≤ cellsDepth ⌝ }
     ensures { λ r. ⌜ ((operand : ℕ) → Meets (SHUFFLE ROT) 3 operand next (now (cells .entry)) p flag (now (cells .exit)) (saysDone r)) ⌝ }
 {
     if p < 3 {
@@ -137,32 +138,38 @@ pub(crate) fn rot(cells: &mut [u32; 64], p: usize, flag: u32, next: u32) -> Done
 }
 
 // ( -- P ) PSP@
-pub(crate) fn depth(cells: &mut [u32; 64], p: usize, flag: u32, next: u32) -> Done
-    requires { ⌜ p ≤ 64 ⌝ }
+pub(crate) fn depth(cells: &mut [u32; Machine::CELLS], p: usize, flag: u32, next: u32) -> Done
+    requires { ⌜ p ≤ cellsDepth ⌝ }
     ensures { λ r. ⌜ ((operand : ℕ) → Meets (SHUFFLE PSP-AT) 0 operand next (now (cells .entry)) p flag (now (cells .exit)) (saysDone r)) ⌝ }
 {
     push(cells, p as u32, p, flag, next)
 }
 
 // ( -- 0 )
-pub(crate) fn zero(cells: &mut [u32; 64], p: usize, flag: u32, next: u32) -> Done
-    requires { ⌜ p ≤ 64 ⌝ }
+pub(crate) fn zero(cells: &mut [u32; Machine::CELLS], p: usize, flag: u32, next: u32) -> Done
+    requires { ⌜ p ≤ cellsDepth ⌝ }
     ensures { λ r. ⌜ ((operand : ℕ) → Meets (SHUFFLE ZERO) 0 operand next (now (cells .entry)) p flag (now (cells .exit)) (saysDone r)) ⌝ }
 {
     push(cells, 0, p, flag, next)
 }
 
 // ( -- operand ) the literals
-pub(crate) fn literal(cells: &mut [u32; 64], operand: u32, p: usize, flag: u32, next: u32) -> Done
-    requires { ⌜ p ≤ 64 ⌝ }
+pub(crate) fn literal(
+    cells: &mut [u32; Machine::CELLS],
+    operand: u32,
+    p: usize,
+    flag: u32,
+    next: u32,
+) -> Done
+    requires { ⌜ p ≤ cellsDepth ⌝ }
     ensures { λ r. ⌜ Meets LITERAL 0 operand next (now (cells .entry)) p flag (now (cells .exit)) (saysDone r) ⌝ }
 {
     push(cells, operand, p, flag, next)
 }
 
 // ( x -- x x | 0 )
-pub(crate) fn dup_nonzero(cells: &mut [u32; 64], p: usize, flag: u32, next: u32) -> Done
-    requires { ⌜ p ≤ 64 ⌝ }
+pub(crate) fn dup_nonzero(cells: &mut [u32; Machine::CELLS], p: usize, flag: u32, next: u32) -> Done
+    requires { ⌜ p ≤ cellsDepth ⌝ }
     ensures { λ r. ⌜ ((operand : ℕ) → Meets (SHUFFLE DUP-NONZERO) 1 operand next (now (cells .entry)) p flag (now (cells .exit)) (saysDone r)) ⌝ }
 {
     if p < 1 {
@@ -180,8 +187,14 @@ pub(crate) fn dup_nonzero(cells: &mut [u32; 64], p: usize, flag: u32, next: u32)
 }
 
 // ( x -- value ) arithmetic on one cell
-pub(crate) fn one(cells: &mut [u32; 64], op: OneCell, p: usize, flag: u32, next: u32) -> Done
-    requires { ⌜ p ≤ 64 ⌝ }
+pub(crate) fn one(
+    cells: &mut [u32; Machine::CELLS],
+    op: OneCell,
+    p: usize,
+    flag: u32,
+    next: u32,
+) -> Done
+    requires { ⌜ p ≤ cellsDepth ⌝ }
     ensures { λ r. ⌜ ((operand : ℕ) → Meets (ONE op) 1 operand next (now (cells .entry)) p flag (now (cells .exit)) (saysDone r)) ⌝ }
 {
     if p < 1 {
@@ -224,8 +237,14 @@ fn two_of(code: u8) -> TwoCells
 }
 
 // ( x y -- value ) or ( x y -- under top ) arithmetic on two cells
-pub(crate) fn two(cells: &mut [u32; 64], code: u8, p: usize, flag: u32, next: u32) -> Done
-    requires { ⌜ p ≤ 64 ⌝ }
+pub(crate) fn two(
+    cells: &mut [u32; Machine::CELLS],
+    code: u8,
+    p: usize,
+    flag: u32,
+    next: u32,
+) -> Done
+    requires { ⌜ p ≤ cellsDepth ⌝ }
     ensures { λ r. ⌜ ((operand : ℕ) → Meets (TWO (twoOf code)) 2 operand next (now (cells .entry)) p flag (now (cells .exit)) (saysDone r)) ⌝ }
 {
     if p < 2 {

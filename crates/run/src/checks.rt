@@ -6,6 +6,7 @@ use crate::Thrown;
 use machine::Machine;
 ghost use mathlib.Core.Path.{_≡_};
 ghost use Prim.Native.Nat.{_≤_};
+ghost use Rattle.links.specs.Depths.{cellsDepth};
 ghost use Rattle.run.specs.Answers.{saysChecked, saysExit, saysThrown};
 ghost use Rattle.run.specs.Verdicts.{pushable, readable, callable, catchable, throwable, exitable, sAfterPop, eAfterPop, eAfterDropOf};
 
@@ -70,8 +71,8 @@ pub(crate) fn can_catch(p: usize, r: usize, s: usize, e: usize) -> Checked
 }
 
 // THROW of 0 needs no exception level
-pub(crate) fn can_throw(cells: &[u32; 64], p: usize, e: usize) -> Thrown
-    requires { ⌜ p ≤ 64 ⌝ }
+pub(crate) fn can_throw(cells: &[u32; Machine::CELLS], p: usize, e: usize) -> Thrown
+    requires { ⌜ p ≤ cellsDepth ⌝ }
     ensures { λ c. ⌜ saysThrown c ≡ throwable (now (cells .entry)) p e ⌝ }
 {
     if p < 1 {

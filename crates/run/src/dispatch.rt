@@ -2,8 +2,10 @@
 use crate::Done;
 use crate::cells;
 use crate::jumps;
+use machine::Machine;
 use word::OneCell;
 ghost use Prim.Native.Nat.{_≤_, _<_};
+ghost use Rattle.links.specs.Depths.{cellsDepth};
 ghost use Rattle.run.specs.Answers.{saysDone};
 ghost use Rattle.run.specs.Promises.{Carries, Unlinked};
 
@@ -12,11 +14,11 @@ pub(crate) fn branches(
     code: u8,
     operand: u32,
     next: u32,
-    cells: &mut [u32; 64],
+    cells: &mut [u32; Machine::CELLS],
     p: usize,
     flag: u32,
 ) -> Done
-    requires { ⌜ (p ≤ 64) × (0x80 ≤ code) ⌝ }
+    requires { ⌜ (p ≤ cellsDepth) × (0x80 ≤ code) ⌝ }
     ensures { λ r. ⌜ Carries code operand next (now (cells .entry)) p flag (now (cells .exit)) (saysDone r) ⌝ }
 {
     if 0xBF < code {
@@ -30,11 +32,11 @@ pub(crate) fn on_cells(
     code: u8,
     operand: u32,
     next: u32,
-    cells: &mut [u32; 64],
+    cells: &mut [u32; Machine::CELLS],
     p: usize,
     flag: u32,
 ) -> Done
-    requires { ⌜ (p ≤ 64) × ((code < 0x80) × Unlinked code) ⌝ }
+    requires { ⌜ (p ≤ cellsDepth) × ((code < 0x80) × Unlinked code) ⌝ }
     ensures { λ r. ⌜ Carries code operand next (now (cells .entry)) p flag (now (cells .exit)) (saysDone r) ⌝ }
 {
     match code {

@@ -52,6 +52,7 @@ struct Stack {
     p: usize,
 }
 
+// An instruction on the parameter cells was carried out, or refused.
 enum Done {
     Went(Stack),
     Refused(u32),
@@ -75,6 +76,7 @@ enum Throw {
     Code(u32),
 }
 
+// THROW found something to throw, or is refused.
 enum Thrown {
     Found(Throw),
     Refused(u32),
@@ -87,6 +89,7 @@ enum Spot {
     Cell(usize),
 }
 
+// An access reaches a place, or is refused.
 enum Reached {
     At(Spot),
     Refused(u32),

@@ -46,10 +46,10 @@ pub(crate) fn ended(answer: u32, steps: Steps, cycles: Cycles, machine: Machine)
 
 // What a run hands back of its own arrays and registers.
 fn finished(
-    cells: [u32; 64],
-    returns: [u32; 64],
-    frames: [Frame; 33],
-    levels: [Level; 9],
+    cells: [u32; Machine::CELLS],
+    returns: [u32; Machine::RETURNS],
+    frames: [Frame; Links::FRAMES],
+    levels: [Level; Links::LEVELS],
     regs: Registers,
     budget: u32,
 ) -> Ran
@@ -76,7 +76,8 @@ fn finished(
 }
 
 // Each round is one step: the instruction is fetched and its checks are made, and what refuses it ends the run; then the
-// machine's own arrays and the registers are changed in place. The loop's own test is the one way out.
+// run's own arrays and its registers are changed in place. The loop's own test is the one way out: a run that no answer ends
+// has spent its budget, answer 1.
 pub(crate) fn rounds(mem: &mut [u8], start: Machine, budget: u32) -> Ran
     requires { ⌜ acceptable (now mem) start budget ≡ true ⌝ }
     ensures { λ ran. ⌜ afterOf (now (mem .exit)) ran ≡ runFrom budget (now (mem .entry)) start 0 0 ⌝ }
@@ -109,7 +110,7 @@ pub(crate) fn rounds(mem: &mut [u8], start: Machine, budget: u32) -> Ran
         let r = regs.r;
         let s = regs.s;
         let e = regs.e;
-        // BEQ and BRA
+        // BEQ and BRA stand before the match: the fetch has told them from the others already
         if 0x7F < code {
             let done = dispatch::branches(code, operand, next, &mut cells, p, regs.flag);
             let Done::Went(stack) = done else {
@@ -178,7 +179,7 @@ pub(crate) fn rounds(mem: &mut [u8], start: Machine, budget: u32) -> Ran
                 let to = cells[p - 1];
                 returns[r] = next;
                 frames[s + 1] = Frame {
-                    locals: [0u32; 16],
+                    locals: [0u32; Frame::LOCALS],
                     r,
                     address: next,
                 };
@@ -203,7 +204,7 @@ pub(crate) fn rounds(mem: &mut [u8], start: Machine, budget: u32) -> Ran
                 regs.e = 0;
                 regs.counter = next;
                 regs = tally::counted(regs, price::price(&costs, code));
-                // without this the compiler sets four zeros before every jump
+                // on its own way to the next round: else the compiler sets four zeros before every jump
                 continue;
             }
             // THROW ( 0 -- ) or ( .. n -- .. n )
@@ -214,6 +215,7 @@ pub(crate) fn rounds(mem: &mut [u8], start: Machine, budget: u32) -> Ran
                     continue;
                 };
                 match throw {
+                    // the cycle table's one exception
                     Throw::Zero => {
                         regs.p = p - 1;
                         regs.counter = next;
@@ -244,7 +246,7 @@ pub(crate) fn rounds(mem: &mut [u8], start: Machine, budget: u32) -> Ran
                 };
                 match spot {
                     Spot::Memory(at) => {
-                        cells[p - 1] = access::read_number(mem, at, width);
+                        cells[p - 1] = bytes::read_number(mem, at, width);
                         regs.counter = next;
                         regs = tally::counted(regs, price::price(&costs, code));
                     }
@@ -317,7 +319,7 @@ pub(crate) fn rounds(mem: &mut [u8], start: Machine, budget: u32) -> Ran
                 };
                 returns[r] = next;
                 frames[s + 1] = Frame {
-                    locals: [0u32; 16],
+                    locals: [0u32; Frame::LOCALS],
                     r,
                     address: next,
                 };
@@ -336,7 +338,7 @@ pub(crate) fn rounds(mem: &mut [u8], start: Machine, budget: u32) -> Ran
                 let to = cells[p - 1];
                 returns[r] = next;
                 frames[s + 1] = Frame {
-                    locals: [0u32; 16],
+                    locals: [0u32; Frame::LOCALS],
                     r,
                     address: next,
                 };

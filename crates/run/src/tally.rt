@@ -3,13 +3,13 @@ use crate::Registers;
 use machine::Cycles;
 use machine::Steps;
 ghost use mathlib.Core.Path.{_≡_};
-ghost use Prim.Native.Nat.{_<_, _≤_};
-ghost use Rattle.plain.specs.Answer.{refuses};
+ghost use Prim.Native.Nat.{_*_, _<_, _≤_};
+ghost use Rattle.machine.specs.Limits.{mostBudget};
 ghost use Rattle.run.specs.Registers.{countedTo, haltedAt};
 
 // One more step, and its cycles.
 pub(crate) fn counted(regs: Registers, price: u32) -> Registers
-    requires { ⌜ (0 < regs .left .0) × ((regs .cycles .0 < 42000000) × (price ≤ 42)) ⌝ }
+    requires { ⌜ (0 < regs .left .0) × ((regs .cycles .0 < 42 * mostBudget) × (price ≤ 42)) ⌝ }
     ensures { λ g. ⌜ (g ≡ countedTo regs price) × (g .left .0 < regs .left .0) ⌝ }
 {
     let mut after = regs;

@@ -1,3 +1,4 @@
+-- Made by .ci/named from reach.rules: 0b008486b278c6c3 447b2d86276bd7ba
 -- Too few cells is test 5; else the place decides.
 use mathlib.Core.Path.{sym, _∙_}
 use native.Mathlib.Omega.{arith}

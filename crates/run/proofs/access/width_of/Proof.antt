@@ -1,3 +1,4 @@
+-- Made by .ci/named from width_of.rules: 48f26e6cfae026b3 d80cf23a72451a66
 -- The tests are the definition's own, in its order.
 use borrow.Author.Tests.{ne-eqb}
 use borrow.Author.Needs.{needs}

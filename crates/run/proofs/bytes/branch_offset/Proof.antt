@@ -1,3 +1,4 @@
+-- Made by .ci/named from branch_offset.rules: 6a8dbde888645a5f a4b30c50e3174f34
 -- The offset is below 2^14, so its sign bit adds at most 2^32 - 2^14.
 use mathlib.Core.Path.{ap}
 use native.Mathlib.Omega.{arith}

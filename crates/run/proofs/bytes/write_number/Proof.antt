@@ -1,3 +1,4 @@
+-- Made by .ci/named from write_number.rules: ba4a1da959e47827 a5eb3b60396ae44c
 -- What is written lies inside, so the bytes of the number stand there.
 use mathlib.Core.Path.{ap}
 use native.Mathlib.Omega.{arith}

@@ -1,13 +1,13 @@
+-- Made by .ci/named from nip.rules: f7491a8821d87a7c 03820c5a2b84bec9
 -- Too few cells is test 5; else the stores are those of the row.
-use Rattle.run.proofs.Shuffles.{nip-few, nip-went}
 use native.Mathlib.Omega.{arith}
+use Rattle.run.proofs.Shuffles.{nip-few, nip-went}
 use borrow.Author.Needs.{needs}
 use Rattle.run.proofs.cells.nip.Statement.{statement}
 use Rattle.run.proofs.cells.nip.Tie as tie
 
 returns : tie.Need-returns
-returns c =
-    let a = c .before .args in λ operand. nip-few operand (a .next) (a .cells .now) (a .p) (a .flag) (c .if1 .taken)
+returns c = λ operand. nip-few operand (c .before .args .next) (c .before .args .cells .now) (c .before .args .p) (c .before .args .flag) (c .if1 .taken)
 
 sub-y : tie.Need-sub-y
 sub-y c = search needs
@@ -28,8 +28,7 @@ sub-t7 : tie.Need-sub-t7
 sub-t7 c = search needs
 
 returns-2 : tie.Need-returns-2
-returns-2 c =
-    let a = c .before .before .args in λ operand. nip-went operand (a .next) (a .cells .now) (a .p) (a .flag) (omega arith) (omega arith)
+returns-2 c = λ operand. nip-went operand (c .before .before .args .next) (c .before .before .args .cells .now) (c .before .before .args .p) (c .before .before .args .flag) (omega arith) (omega arith)
 
 pub nip-spec : {M : Type 1} → statement M
 nip-spec =

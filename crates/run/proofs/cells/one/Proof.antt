@@ -1,13 +1,13 @@
+-- Made by .ci/named from one.rules: 9273a3c821c68cd4 b27850f2dd9cad72
 -- Too few cells is test 5; else the cell and the flag are what `word` gives.
-use Rattle.run.proofs.Arithmetic.{one-few, one-went}
 use native.Mathlib.Omega.{arith}
+use Rattle.run.proofs.Arithmetic.{one-few, one-went}
 use borrow.Author.Needs.{needs}
 use Rattle.run.proofs.cells.one.Statement.{statement}
 use Rattle.run.proofs.cells.one.Tie as tie
 
 returns : tie.Need-returns
-returns c =
-    let a = c .before .args in λ operand. one-few operand (a .next) (a .cells .now) (a .p) (a .flag) (a .op) (c .if1 .taken)
+returns c = λ operand. one-few operand (c .before .args .next) (c .before .args .cells .now) (c .before .args .p) (c .before .args .flag) (c .before .args .op) (c .if1 .taken)
 
 mul-x : tie.Need-mul-x
 mul-x c = search needs
@@ -25,8 +25,7 @@ element-write-cells : tie.Need-element-write-cells
 element-write-cells c = search needs
 
 returns-2 : tie.Need-returns-2
-returns-2 c =
-    let a = c .before .before .before .args in λ operand. one-went operand (a .next) (a .cells .now) (a .p) (a .flag) (a .op) (c .one-cell .result) (c .one-cell .ensures) (omega arith) (omega arith)
+returns-2 c = λ operand. one-went operand (c .before .before .before .args .next) (c .before .before .before .args .cells .now) (c .before .before .before .args .p) (c .before .before .before .args .flag) (c .before .before .before .args .op) (c .one-cell .result) (c .one-cell .ensures) (omega arith) (omega arith)
 
 pub one-spec : {M : Type 1} → statement M
 one-spec =

@@ -1,13 +1,13 @@
+-- Made by .ci/named from rot.rules: 967b110e33524567 548e28e46885a587
 -- Too few cells is test 5; else the stores are those of the row.
-use Rattle.run.proofs.Shuffles.{rot-few, rot-went}
 use native.Mathlib.Omega.{arith}
+use Rattle.run.proofs.Shuffles.{rot-few, rot-went}
 use borrow.Author.Needs.{needs}
 use Rattle.run.proofs.cells.rot.Statement.{statement}
 use Rattle.run.proofs.cells.rot.Tie as tie
 
 returns : tie.Need-returns
-returns c =
-    let a = c .before .args in λ operand. rot-few operand (a .next) (a .cells .now) (a .p) (a .flag) (c .if1 .taken)
+returns c = λ operand. rot-few operand (c .before .args .next) (c .before .args .cells .now) (c .before .args .p) (c .before .args .flag) (c .if1 .taken)
 
 mul-x : tie.Need-mul-x
 mul-x c = search needs
@@ -58,8 +58,7 @@ element-write-cells-3 : tie.Need-element-write-cells-3
 element-write-cells-3 c = search needs
 
 returns-2 : tie.Need-returns-2
-returns-2 c =
-    let a = c .before .before .before .before .args in λ operand. rot-went operand (a .next) (a .cells .now) (a .p) (a .flag) (omega arith) (omega arith)
+returns-2 c = λ operand. rot-went operand (c .before .before .before .before .args .next) (c .before .before .before .before .args .cells .now) (c .before .before .before .before .args .p) (c .before .before .before .before .args .flag) (omega arith) (omega arith)
 
 pub rot-spec : {M : Type 1} → statement M
 rot-spec =

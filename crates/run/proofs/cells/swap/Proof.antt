@@ -1,13 +1,13 @@
+-- Made by .ci/named from swap.rules: 2b208a96af48fd6c 53bee6db2f53a11e
 -- Too few cells is test 5; else the stores are those of the row.
-use Rattle.run.proofs.Shuffles.{swap-few, swap-went}
 use native.Mathlib.Omega.{arith}
+use Rattle.run.proofs.Shuffles.{swap-few, swap-went}
 use borrow.Author.Needs.{needs}
 use Rattle.run.proofs.cells.swap.Statement.{statement}
 use Rattle.run.proofs.cells.swap.Tie as tie
 
 returns : tie.Need-returns
-returns c =
-    let a = c .before .args in λ operand. swap-few operand (a .next) (a .cells .now) (a .p) (a .flag) (c .if1 .taken)
+returns c = λ operand. swap-few operand (c .before .args .next) (c .before .args .cells .now) (c .before .args .p) (c .before .args .flag) (c .if1 .taken)
 
 mul-x : tie.Need-mul-x
 mul-x c = search needs
@@ -40,8 +40,7 @@ element-write-cells-2 : tie.Need-element-write-cells-2
 element-write-cells-2 c = search needs
 
 returns-2 : tie.Need-returns-2
-returns-2 c =
-    let a = c .before .before .before .args in λ operand. swap-went operand (a .next) (a .cells .now) (a .p) (a .flag) (omega arith) (omega arith)
+returns-2 c = λ operand. swap-went operand (c .before .before .before .args .next) (c .before .before .before .args .cells .now) (c .before .before .before .args .p) (c .before .before .before .args .flag) (omega arith) (omega arith)
 
 pub swap-spec : {M : Type 1} → statement M
 swap-spec =

@@ -1,7 +1,9 @@
+-- Made by .ci/named from two_of.rules: 81e0a4577d85f939 c5143d5565775fb7
 -- Each arm has the code's operation; the last one is what is left.
-use mathlib.Core.Path.{refl, ap, sym}
+use mathlib.Core.Path.{sym, ap}
 use borrow.Author.Tests.{ne-eqb}
 use Rattle.run.specs.Operations.{twoOf}
+use borrow.Author.Needs.{needs}
 use Rattle.run.proofs.cells.two_of.Statement.{statement}
 use Rattle.run.proofs.cells.two_of.Tie as tie
 

@@ -1,7 +1,8 @@
+-- Made by .ci/named from can_call.rules: b039633c71506665 d9a718fce09d7ed9
 -- The tests are the definition's own, in its order.
 use Rattle.run.specs.Verdicts.{callable}
-use borrow.Author.Needs.{needs}
 use Rattle.run.proofs.Rules.{tests}
+use borrow.Author.Needs.{needs}
 use Rattle.run.proofs.checks.can_call.Statement.{statement}
 use Rattle.run.proofs.checks.can_call.Tie as tie
 
@@ -22,4 +23,10 @@ unfolding callable
 returns-4 c = search (needs, tests)
 
 pub can-call-spec : {M : Type 1} → statement M
-can-call-spec = tie.close (tie.spec returns returns-2 returns-3 returns-4)
+can-call-spec =
+    tie.close
+    (tie.spec
+    returns
+    returns-2
+    returns-3
+    returns-4)

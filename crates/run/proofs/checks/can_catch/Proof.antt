@@ -1,7 +1,8 @@
+-- Made by .ci/named from can_catch.rules: df6d417a88c387af 74b6c4ebf896174c
 -- The tests are the definition's own, in its order.
 use Rattle.run.specs.Verdicts.{catchable}
-use borrow.Author.Needs.{needs}
 use Rattle.run.proofs.Rules.{tests}
+use borrow.Author.Needs.{needs}
 use Rattle.run.proofs.checks.can_catch.Statement.{statement}
 use Rattle.run.proofs.checks.can_catch.Tie as tie
 
@@ -26,4 +27,11 @@ unfolding catchable
 returns-5 c = search (needs, tests)
 
 pub can-catch-spec : {M : Type 1} → statement M
-can-catch-spec = tie.close (tie.spec returns returns-2 returns-3 returns-4 returns-5)
+can-catch-spec =
+    tie.close
+    (tie.spec
+    returns
+    returns-2
+    returns-3
+    returns-4
+    returns-5)

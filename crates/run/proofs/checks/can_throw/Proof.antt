@@ -1,3 +1,4 @@
+-- Made by .ci/named from can_throw.rules: c1f42d562931896a 97f75e1ac51543b0
 -- The tests are the definition's own, in its order.
 use Rattle.run.specs.Verdicts.{throwable}
 use Rattle.run.proofs.Rules.{tests}
@@ -29,4 +30,11 @@ returns-4 c = search (needs, tests)
 
 pub can-throw-spec : {M : Type 1} → statement M
 can-throw-spec =
-    tie.close (tie.spec returns mul-n element-copy-out-n returns-2 returns-3 returns-4)
+    tie.close
+    (tie.spec
+    returns
+    mul-n
+    element-copy-out-n
+    returns-2
+    returns-3
+    returns-4)

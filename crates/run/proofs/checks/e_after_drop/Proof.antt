@@ -1,3 +1,4 @@
+-- Made by .ci/named from e_after_drop.rules: 95123e77d6af6e7d c37c29c4fe686367
 -- The tests are the definition's own, in its order.
 use Rattle.run.specs.Verdicts.{eAfterDropOf}
 use Rattle.run.proofs.Rules.{tests}
@@ -21,4 +22,10 @@ unfolding eAfterDropOf
 returns-3 c = search (needs, tests)
 
 pub e-after-drop-spec : {M : Type 1} → statement M
-e-after-drop-spec = tie.close (tie.spec returns sub-result returns-2 returns-3)
+e-after-drop-spec =
+    tie.close
+    (tie.spec
+    returns
+    sub-result
+    returns-2
+    returns-3)

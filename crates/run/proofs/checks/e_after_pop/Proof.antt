@@ -1,3 +1,4 @@
+-- Made by .ci/named from e_after_pop.rules: ff156063fd66d08c 6a26b6aa5052ebdd
 -- Nothing goes unless a subroutine level went.
 use borrow.Author.Tests.{lt-ltb}
 use Rattle.run.specs.Verdicts.{eAfterPop}
@@ -18,4 +19,9 @@ unfolding eAfterPop
 returns-2 c = search (needs, tests)
 
 pub e-after-pop-spec : {M : Type 1} → statement M
-e-after-pop-spec = tie.close (tie.spec e-after-drop-requires returns returns-2)
+e-after-pop-spec =
+    tie.close
+    (tie.spec
+    e-after-drop-requires
+    returns
+    returns-2)

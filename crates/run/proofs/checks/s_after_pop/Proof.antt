@@ -1,3 +1,4 @@
+-- Made by .ci/named from s_after_pop.rules: 31b8cc04ee6a9605 ec6171d7cfcec149
 -- The tests are the definition's own, in its order.
 use Rattle.run.specs.Verdicts.{sAfterPop}
 use Rattle.run.proofs.Rules.{tests}
@@ -21,4 +22,10 @@ unfolding sAfterPop
 returns-3 c = search (needs, tests)
 
 pub s-after-pop-spec : {M : Type 1} → statement M
-s-after-pop-spec = tie.close (tie.spec returns sub-result returns-2 returns-3)
+s-after-pop-spec =
+    tie.close
+    (tie.spec
+    returns
+    sub-result
+    returns-2
+    returns-3)

@@ -1,3 +1,4 @@
+-- Made by .ci/named from on_cells.rules: a2670fe2f7c92494 4806ceaa882e0722
 -- Each arm carries its instruction out, and the code says which; what no arm has is unknown.
 use mathlib.Core.Path.{ap}
 use Prim.Native.Nat.{ℕ}

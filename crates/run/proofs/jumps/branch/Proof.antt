@@ -1,12 +1,16 @@
+-- Made by .ci/named from branch.rules: 3a6b97639f4024d5 b0b95a5cf8918b2e
 -- BRA goes to its target.
-use Rattle.run.proofs.Goings.{bra-went}
 use native.Mathlib.Omega.{arith}
+use Rattle.run.proofs.Goings.{bra-went}
+use borrow.Author.Needs.{needs}
 use Rattle.run.proofs.jumps.branch.Statement.{statement}
 use Rattle.run.proofs.jumps.branch.Tie as tie
 
 returns : tie.Need-returns
-returns c =
-    let a = c .args in bra-went (a .operand) (a .next) (a .cells .now) (a .p) (a .flag) (omega arith)
+returns c = bra-went (c .args .operand) (c .args .next) (c .args .cells .now) (c .args .p) (c .args .flag) (omega arith)
 
 pub branch-spec : {M : Type 1} → statement M
-branch-spec = tie.close (tie.spec returns)
+branch-spec =
+    tie.close
+    (tie.spec
+    returns)

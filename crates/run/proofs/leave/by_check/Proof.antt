@@ -1,3 +1,4 @@
+-- Made by .ci/named from by_check.rules: 25878afae81658b8 1438f68e0b930b6a
 -- An answer that refuses ends the run with its number; any other stops nothing.
 use borrow.Author.Needs.{needs}
 use Rattle.run.proofs.leave.by_check.Statement.{statement}

@@ -1,3 +1,4 @@
+-- Made by .ci/named from by_done.rules: 2d8f54041f8057fe 47f4bd1a43336240
 -- An answer that refuses ends the run with its number; any other stops nothing.
 use borrow.Author.Needs.{needs}
 use Rattle.run.proofs.leave.by_done.Statement.{statement}

@@ -1,3 +1,4 @@
+-- Made by .ci/named from by_exit.rules: d05f60496b23626e 4958b76e3b3421f7
 -- An answer that refuses ends the run with its number; any other stops nothing.
 use borrow.Author.Needs.{needs}
 use Rattle.run.proofs.leave.by_exit.Statement.{statement}

@@ -1,3 +1,4 @@
+-- Made by .ci/named from by_fetch.rules: d6ccceb1f4df97f1 be7400c91f2c79d3
 -- An answer that refuses ends the run with its number; any other stops nothing.
 use borrow.Author.Needs.{needs}
 use Rattle.run.proofs.leave.by_fetch.Statement.{statement}

@@ -1,3 +1,4 @@
+-- Made by .ci/named from by_reach.rules: 29a6207ee8ef6b7b 1e68e7c0ef7e3c9f
 -- An answer that refuses ends the run with its number; any other stops nothing.
 use borrow.Author.Needs.{needs}
 use Rattle.run.proofs.leave.by_reach.Statement.{statement}

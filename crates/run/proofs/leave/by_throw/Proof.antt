@@ -1,3 +1,4 @@
+-- Made by .ci/named from by_throw.rules: 7ad403e8fda8579c a45b813417183cb7
 -- An answer that refuses ends the run with its number; any other stops nothing.
 use borrow.Author.Needs.{needs}
 use Rattle.run.proofs.leave.by_throw.Statement.{statement}

@@ -1,3 +1,4 @@
+-- Made by .ci/named from place_of.rules: 63ecce162d44f7b9 a59c42b13aa0b228
 -- By its width; only a long access reaches the cells.
 use Rattle.machine.specs.Memory.{placeOf}
 use borrow.Author.Needs.{needs}
@@ -24,17 +25,14 @@ long-place-requires c κs = search needs
 
 returns : tie.Need-returns
 unfolding placeOf
-returns c =
-    rw (c .before .enum-told .given .1) (c .in-memory .ensures)
+returns c = rw (c .before .enum-told .given .1) (c .in-memory .ensures)
 
 returns-2 : tie.Need-returns-2
 unfolding placeOf
-returns-2 c =
-    rw (c .before .enum-told2 .given .1) (c .in-memory2 .ensures)
+returns-2 c = rw (c .before .enum-told2 .given .1) (c .in-memory2 .ensures)
 
 returns-3 : tie.Need-returns-3
-returns-3 c =
-    rw (c .before .enum-told3 .given .1) (c .long-place .ensures)
+returns-3 c = rw (c .before .enum-told3 .given .1) (c .long-place .ensures)
 
 pub place-of-spec : {M : Type 1} → statement M
 place-of-spec =

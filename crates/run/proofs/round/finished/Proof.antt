@@ -1,3 +1,4 @@
+-- Made by .ci/named from finished.rules: 74d0a83162835714 88cba38a7cd18527
 -- What is handed back is made of the arrays and the registers.
 use mathlib.Core.Path.{ap}
 use Rattle.machine.specs.Run.{afterOf}
@@ -15,4 +16,9 @@ returns : tie.Need-returns
 returns c = λ mem. ap (afterOf mem) (c .ended .ensures)
 
 pub finished-spec : {M : Type 1} → statement M
-finished-spec = tie.close (tie.spec sub-t10 ended-requires returns)
+finished-spec =
+    tie.close
+    (tie.spec
+    sub-t10
+    ended-requires
+    returns)

@@ -1,4 +1,4 @@
--- Made by .ci/named from rounds.rules: be592bb6f271f0be c9f885e1c6fcda7e
+-- Made by .ci/named from rounds.rules: 11d56db98002d9b5 c9f885e1c6fcda7e
 -- The loop is the definition's run: each round is one step of `stepOf`, and what ends it is the definition's own.
 use mathlib.Core.Path.{_≡_, refl, ap, sym, _∙_}
 use mathlib.Core.Logic.{inl, inr}
