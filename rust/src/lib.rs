@@ -14,6 +14,7 @@ pub mod grower;
 pub mod model;
 pub mod operands;
 pub mod programs;
+pub mod progress;
 pub mod random;
 pub mod speed_images;
 pub mod state_bytes;

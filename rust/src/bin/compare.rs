@@ -10,21 +10,31 @@ use glidecotton_rust::comparison::{Comparison, Difference, Room};
 use glidecotton_rust::damage::sweep;
 use glidecotton_rust::model::state::MEMORY;
 use glidecotton_rust::programs::{any_image, buffers};
+use glidecotton_rust::progress::Progress;
 use glidecotton_rust::random::Random;
 use glidecotton_rust::tally::grouped;
 
-const USAGE: &str = "compare [--seed N] [--images N] [--states N] [--short] [--stand-in]";
+struct Plan {
+    seed: u64,
+    images: u64,
+    states: u64,
+}
+
+fn plan() -> Result<Plan, ExitCode> {
+    let mut arguments = Arguments::of_program()?;
+    let short = arguments.flag("--short");
+    let seed = arguments.number("--seed", 1)?;
+    let images = arguments.number("--images", if short { 400_000 } else { 3_000_000 })?;
+    let states = arguments.number("--states", if short { 100_000 } else { 600_000 })?;
+    arguments.end()?;
+    Ok(Plan { seed, images, states })
+}
 
 fn main() -> ExitCode {
-    let arguments = match Arguments::of_program(USAGE) {
-        Ok(arguments) => arguments,
+    let Plan { seed, images, states } = match plan() {
+        Ok(plan) => plan,
         Err(end) => return end,
     };
-    let short = arguments.has("--short");
-    let seed = arguments.number("--seed", 1);
-    let images = arguments.number("--images", if short { 400_000 } else { 3_000_000 });
-    let states = arguments.number("--states", if short { 100_000 } else { 600_000 });
-
     let subject = if STAND_IN { "the plain C interpreter (a stand-in)" } else { "the proved machine" };
     println!("{subject} against the model: seed {seed}, {} images, {} states", grouped(images), grouped(states));
     let start = Instant::now();
@@ -50,12 +60,14 @@ fn main() -> ExitCode {
 }
 
 fn compare_images(comparison: &mut Comparison, random: &mut Random, images: u64) -> Result<(), Difference> {
+    let mut progress = Progress::new("images", images);
     let sweep = sweep();
     for file in &sweep {
         comparison.tally.kind("image: swept damage");
         comparison.image(file, MEMORY, Room::Plenty)?;
     }
-    for _ in sweep.len() as u64..images {
+    for done in sweep.len() as u64..images {
+        progress.done(done);
         let (kind, file) = any_image(random);
         comparison.tally.kind(kind);
         let (memory, room) = buffers(random);
@@ -67,8 +79,10 @@ fn compare_images(comparison: &mut Comparison, random: &mut Random, images: u64)
 }
 
 fn compare_states(comparison: &mut Comparison, random: &mut Random, states: u64) -> Result<(), Difference> {
+    let mut progress = Progress::new("states", states);
     let mut runs = 0;
     while runs < states {
+        progress.done(runs);
         runs += any_state(comparison, random)?;
     }
     Ok(())

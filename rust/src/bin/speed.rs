@@ -12,8 +12,6 @@ use glidecotton_rust::model::bench::bench;
 use glidecotton_rust::model::state::MEMORY;
 use glidecotton_rust::speed_images::{speed_images, SpeedImage};
 
-const USAGE: &str = "speed [--stand-in] [--no-counting]";
-
 /// A ratio above this is marked, and one of instructions fails.
 const LIMIT: f64 = 1.5;
 /// Rounds of timing, of which the quickest counts.
@@ -52,17 +50,36 @@ fn model_bench(image: &[u8], memory: &mut [u8], out: &mut [u8]) -> u64 {
     text.len() as u64
 }
 
+/// What the words ask for.
+enum Wish {
+    Times,
+    TimesAndInstructions,
+    /// One measurement, in the process that callgrind watches: the contender's name and the image's number.
+    Counted(String, usize),
+}
+
+fn wish() -> Result<Wish, ExitCode> {
+    let mut arguments = Arguments::of_program()?;
+    let times_alone = arguments.flag("--no-counting");
+    let counted = arguments.value("--counted");
+    let image = arguments.number("--image", 0)?;
+    arguments.end()?;
+    Ok(match counted {
+        Some(name) => Wish::Counted(name, image as usize),
+        None if times_alone => Wish::Times,
+        None => Wish::TimesAndInstructions,
+    })
+}
+
 fn main() -> ExitCode {
-    let arguments = match Arguments::of_program(USAGE) {
-        Ok(arguments) => arguments,
+    let wish = match wish() {
+        Ok(wish) => wish,
         Err(end) => return end,
     };
     let images = speed_images();
-    if let Some(name) = arguments.value("--counted") {
-        // This is the process that callgrind watches.
-        let image = &images[arguments.number("--image", 0) as usize];
+    if let Wish::Counted(name, image) = wish {
         if let Some(contender) = CONTENDERS.iter().find(|contender| contender.name == name) {
-            repeat(contender, image);
+            repeat(contender, &images[image]);
         }
         return ExitCode::SUCCESS;
     }
@@ -74,7 +91,7 @@ fn main() -> ExitCode {
         return ExitCode::FAILURE;
     }
     print_table("nanoseconds", &images, time);
-    if arguments.has("--no-counting") {
+    if let Wish::Times = wish {
         return ExitCode::SUCCESS;
     }
     let over = print_table("instructions", &images, count_instructions);
@@ -157,23 +174,26 @@ fn counted(contender: Contender, index: usize) -> u64 {
         .unwrap_or_else(|| panic!("callgrind counted nothing in {}:\n{text}", contender.entry))
 }
 
-/// Prints a row for each image; gives how many of the proved machine's ratios are over the limit.
+/// Prints a row for each image, all rows together after the last is measured; gives how many of the proved machine's ratios
+/// are over the limit.
 fn print_table(title: &str, images: &[SpeedImage], measure: fn(usize, &SpeedImage) -> [f64; 3]) -> usize {
-    println!("{title:<24}{:>10}{:>10}{:>10}   model/C  proved/C", "plain C", "proved", "model");
+    let mut rows = format!("{title:<24}{:>10}{:>10}{:>10}   model/C  proved/C\n", "plain C", "proved", "model");
     let mut over = 0;
     for (index, image) in images.iter().enumerate() {
+        eprintln!("measuring {title}: '{}', image {} of {}", image.name, index + 1, images.len());
         let [c, proved, model] = measure(index, image);
         let ratio = proved / c;
         let unit = if image.per_step { "a step" } else { "a run" };
         let mark = if ratio > LIMIT { " !" } else { "" };
-        println!(
-            "  {:<13}{unit:<9}{c:>10.1}{proved:>10.1}{model:>10.1}{:>10.2}{ratio:>10.2}  {}{mark}",
+        rows += &format!(
+            "  {:<13}{unit:<9}{c:>10.1}{proved:>10.1}{model:>10.1}{:>10.2}{ratio:>10.2}  {}{mark}\n",
             image.name,
             model / c,
             bar(ratio)
         );
         over += usize::from(ratio > LIMIT);
     }
+    print!("{rows}");
     over
 }
 
