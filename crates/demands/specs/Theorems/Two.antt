@@ -7,7 +7,7 @@ use native.Mathlib.Omega.{arith}
 use lib.ListN.{getD}
 use Rattle.machine.specs.Limits.{mostBudget}
 use Rattle.machine.specs.State.{Whole}
-use Rattle.machine.specs.Codes.{cycleTable}
+use Rattle.machine.specs.Codes.{tableEnd, cycleTable}
 use Rattle.machine.specs.Fetch.{instructionAt}
 use Rattle.machine.specs.Rows.{top}
 use Rattle.machine.specs.Checks.{Test}
@@ -83,7 +83,7 @@ pub counts : (mem : List ℕ) (m : Machine) (budget : ℕ) → acceptable mem m 
 counts mem m budget e = subst (λ (a : After). Course budget (world mem m) 0 0 a) (sym (starts mem m budget e)) (course budget mem m 0 0)
 
 -- What an instruction takes: by the cycle table, but 2 for a branch and 1 for THROW of 0.
-pub by-table : (w : World) → codeAt w < 62 → (codeAt w ≡ 0x0D → top (w .machine) ≡ 0 → ⊥) → costAt w ≡ getD cycleTable (codeAt w) 0
+pub by-table : (w : World) → codeAt w < tableEnd → (codeAt w ≡ 0x0D → top (w .machine) ≡ 0 → ⊥) → costAt w ≡ getD cycleTable (codeAt w) 0
 unfolding instructionAt
 by-table w below other = by-code (instructionAt (w .memory) (w .machine .counter)) (w .machine) other ∙ sym (cycle-at (codeAt w) below)
 
