@@ -20,7 +20,7 @@ use Rattle.numbers.specs.declared.Written.the-variants as writing
 abbrev pub inside : ℕ → List ℕ → ℕ → Bool
 inside n bytes a = leb (a + n) (length bytes)
 
--- a slice that is too short
+-- the number of a slice that is too short, as of any lent buffer
 abbrev pub tooShort : ℕ
 tooShort = 2
 
@@ -52,7 +52,7 @@ writeAt n v bytes a =
     (record { said = gives tt; bytes = sets bytes a (bytesOf n v) })
     (record { said = refuses tooShort; bytes = bytes })
 
--- characters end before a place
+-- where the characters end
 abbrev pub saysPut : Put → Answer ℕ
 saysPut (Until end) = gives end
 saysPut NoRoom = refuses tooShort

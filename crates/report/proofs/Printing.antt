@@ -1,6 +1,6 @@
 -- A text that fits the buffer, and one that does not; the text of a run and that of a refused image.
 use mathlib.Core.List.{List, _++_}
-use mathlib.Core.Path.{_≡_, sym, ap, _∙_}
+use mathlib.Core.Path.{_≡_, sym, ap, subst, _∙_}
 use Prim.Native.Nat.{ℕ, _≤_, _<_}
 use native.Mathlib.Omega.{arith}
 use lib.ListN.{length, take, drop}
@@ -50,10 +50,10 @@ module _ (ran : Ran) (out : List ℕ) where
   unfolding reportOf
   too-many h = simp (lt-leb _ _ h)
 
-  pub run-printed : (l m k : List ℕ) (first end : ℕ) (reported : Reported) → ran .machine .p ≤ mostCells → length l ≡ longest
-      → Added l 0 (line (numbersOf ran)) m first → Added m first (cellLines (take (ran .machine .p) (ran .machine .cells))) k end
+  pub run-printed : (numbers l m k : List ℕ) (first end : ℕ) (reported : Reported) → ran .machine .p ≤ mostCells → numbers ≡ numbersOf ran → length l ≡ longest
+      → Added l 0 (line numbers) m first → Added m first (cellLines (take (ran .machine .p) (ran .machine .cells))) k end
       → reported ≡ printedIn (take end k) out → reported ≡ reportOf ran out
   unfolding textOf reportOf
-  run-printed l m k first end reported few room numbers cells is =
+  run-printed numbers l m k first end reported few are room first-line cells is =
       let size = text-size ran few in
-      is ∙ ap (λ (t : List ℕ). printedIn t out) (added-text (added-then numbers cells) (omega arith)) ∙ simp (le-leb _ _ few)
+      is ∙ ap (λ (t : List ℕ). printedIn t out) (added-text (added-then (subst (λ (ns : List ℕ). Added l 0 (line ns) m first) are first-line) cells) (omega arith)) ∙ simp (le-leb _ _ few)

@@ -10,6 +10,9 @@ ghost use Prim.Native.Nat.{_≤_};
 ghost use lib.ListN.{length, take};
 ghost use Rattle.report.specs.Printing.{saysPrinted, printedIn, reportOf, refusalOf};
 
+// The answer to a buffer too short for the text, and to a state that is none.
+const UNFIT: u32 = 2;
+
 // How many bytes were written, or the answer number of a call that wrote none.
 pub enum Printed {
     Text(usize),
@@ -22,7 +25,7 @@ fn print(text: &[u8], count: usize, out: &mut [u8]) -> Printed
     ensures { λ r. ⌜ record { printed = saysPrinted r; out = now (out .exit) } ≡ printedIn (take count (now (text .entry))) (now (out .entry)) ⌝ }
 {
     if out.len() < count {
-        return Printed::Refused(2);
+        return Printed::Refused(UNFIT);
     }
     Printed::Text(bytes::copy(&text[..count], out))
 }
@@ -34,21 +37,9 @@ pub fn report(ran: Ran, out: &mut [u8]) -> Printed
     let machine = ran.machine;
     let p = machine.p;
     if Machine::CELLS < p {
-        return Printed::Refused(2);
+        return Printed::Refused(UNFIT);
     }
-    let steps = ran.steps;
-    let cycles = ran.cycles;
-    let links = machine.links;
-    let numbers = [
-        ran.answer as u64,
-        steps.0 as u64,
-        cycles.0 as u64,
-        machine.counter as u64,
-        p as u64,
-        links.r as u64,
-        links.s as u64,
-        links.e as u64,
-    ];
+    let numbers = lines::numbers_of(ran);
     let cells = machine.cells;
     let mut text = [0u8; LONGEST];
     let first = lines::put_line(&mut text, numbers);
@@ -61,6 +52,6 @@ pub fn refusal(number: u32, out: &mut [u8]) -> Printed
     ensures { λ r. ⌜ record { printed = saysPrinted r; out = now (out .exit) } ≡ refusalOf number (now (out .entry)) ⌝ }
 {
     let mut text = [0u8; sizes::FIELD];
-    let end = lines::put_field(&mut text, 0, number as u64, 0x0A);
+    let end = lines::put_field(&mut text, 0, number as u64, lines::LINE_FEED);
     print(&text, end, out)
 }

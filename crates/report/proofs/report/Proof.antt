@@ -7,17 +7,8 @@ use Rattle.report.proofs.report.Tie as tie
 returns : tie.Need-returns
 returns c = search (needs, too-many)
 
-cast-t14 : tie.Need-cast-t14
-cast-t14 c = search needs
-
-cast-t15 : tie.Need-cast-t15
-cast-t15 c = search needs
-
-cast-t16 : tie.Need-cast-t16
-cast-t16 c = search needs
-
-cast-t17 : tie.Need-cast-t17
-cast-t17 c = search needs
+numbers-of-requires : tie.Need-numbers-of-requires
+numbers-of-requires c κs = search needs
 
 slice-aggregate-put-line : tie.Need-slice-aggregate-put-line
 slice-aggregate-put-line c = search needs
@@ -48,10 +39,7 @@ report-spec =
     tie.close
     (tie.spec
     returns
-    cast-t14
-    cast-t15
-    cast-t16
-    cast-t17
+    numbers-of-requires
     slice-aggregate-put-line
     put-line-requires
     slice-aggregate-put-cells
