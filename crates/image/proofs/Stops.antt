@@ -12,7 +12,8 @@ use Rattle.numbers.specs.declared.Found.{Found}
 use Rattle.numbers.specs.declared.Found.the-variants.{Number, Outside}
 use Rattle.machine.specs.Limits.{mostBudget}
 use Rattle.image.specs.Format.{limits, countWidth, budgetOf}
-use Rattle.image.specs.Judging.{badFile, fails, stands, saysMet, partAt, valuesIn, endJudged, judgedOf}
+use Rattle.image.specs.Judging.{badFile, fails, stands, partAt, valuesIn, endJudged, judgedOf}
+use Rattle.image.specs.Laws.Met.{saysMet}
 use Rattle.image.specs.Laws.Section.{whole-at, elements-inside}
 use Rattle.image.proofs.Reading.{was-inside, was-outside}
 use Rattle.image.specs.declared.Section.{Section}

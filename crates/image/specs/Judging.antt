@@ -18,8 +18,6 @@ use Rattle.image.specs.declared.Fault.{Fault}
 use Rattle.image.specs.declared.Fault.the-variants as fault
 use Rattle.image.specs.declared.Part.{Part}
 use Rattle.image.specs.declared.Parts.{Parts}
-use Rattle.image.specs.declared.Met.{Met}
-use Rattle.image.specs.declared.Met.the-variants as met
 use Rattle.image.specs.declared.Judged.{Judged}
 use Rattle.image.specs.declared.Judged.the-variants as judged
 
@@ -36,11 +34,7 @@ abbrev pub answerOf : {A : Type 0} → Finding A → Answer A
 answerOf (fails number fault) = refuses number
 answerOf (stands x) = gives x
 
--- what an answer says of a section, and of a whole file
-abbrev pub saysMet : Met → Finding Part
-saysMet (met.Bad fault) = fails badFile fault
-saysMet (met.Whole part) = stands part
-
+-- what an answer about a file says
 abbrev pub saysJudged : Judged → Finding Parts
 saysJudged (judged.Bad fault) = fails badFile fault
 saysJudged (judged.Good parts) = stands parts

@@ -1,3 +1,5 @@
+-- what the answer about one section says
+pub mod Met
 -- one section: what is spelled is judged whole and read, and back
 pub mod Section
 -- the whole file, both ways

@@ -11,7 +11,8 @@ ghost use Prim.Native.Nat.{_+_, _*_, _≤_};
 ghost use lib.ListN.{length};
 ghost use Rattle.numbers.specs.Bytes.{numberAt};
 ghost use Rattle.image.specs.Format.{limits, cellWidth, budgetOf, longestFile};
-ghost use Rattle.image.specs.Judging.{partAt, saysMet, valuesIn};
+ghost use Rattle.image.specs.Judging.{partAt, valuesIn};
+ghost use Rattle.image.specs.Laws.Met.{saysMet};
 
 // The budget of a file that gives none.
 const DEFAULT_BUDGET: u32 = 10000;

@@ -13,7 +13,7 @@ use Rattle.machine.specs.Run.{runOf}
 use Rattle.machine.specs.declared.Ran.{Ran}
 use Rattle.image.specs.Loading.{Handed, Read, wrong-memory, not-spelled, read, refusedWith, loadedFrom}
 use Rattle.report.specs.Printing.{Reported, printedIn, reportOf, refusalOf, untouched}
-use Rattle.report.specs.Sizes.{mostCells}
+use Rattle.links.specs.Depths.{cellsDepth}
 use Rattle.report.specs.Text.{textOf, refusalText}
 use Rattle.report.specs.Laws.Size.{text-size}
 use Rattle.report.specs.Laws.Sample.{sample-refusal}
@@ -35,9 +35,9 @@ printed-apart text out h = by-test (leb (length text) (length out)) (text ++ dro
 
 report-apart : (ran : Ran) (out : List ℕ) → Apart (reportOf ran out .printed)
 unfolding reportOf
-report-apart ran out = by-test (leb (ran .machine .p) mostCells) refl
+report-apart ran out = by-test (leb (ran .machine .p) cellsDepth) refl
   where
-    by-test : (t : Bool) → leb (ran .machine .p) mostCells ≡ t → Apart (pick t (printedIn (textOf ran) out) (untouched out) .printed)
+    by-test : (t : Bool) → leb (ran .machine .p) cellsDepth ≡ t → Apart (pick t (printedIn (textOf ran) out) (untouched out) .printed)
     by-test true e =
         let long : 16 ≤ length (textOf ran) = text-size ran (leb-true _ _ e) .0 in
         printed-apart (textOf ran) out (omega arith)
