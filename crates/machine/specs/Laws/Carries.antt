@@ -26,7 +26,7 @@ use Rattle.machine.specs.Fetch.{Instruction, operandAt, instructionAt}
 use Rattle.machine.specs.Rows.{Row, top, second, topReturn, localsInView, cellsInView, cells, throwRow, rowOf, linkRow, shuffled, target, twoRow, fetchRow, storeRow}
 use Rattle.machine.specs.Step.{Stepped, refused, done, stepOf, rowAt}
 use Rattle.machine.specs.Run.{After, ended, runFrom, acceptable, runOf}
-use Rattle.machine.specs.Fits.{Fits, AllBytes, Exist}
+use Rattle.machine.specs.Fits.{Fits, AllBytes, Exist, ExistAfter}
 use Rattle.machine.specs.Laws.Tables.{Everywhere, at-code}
 use Rattle.machine.specs.Laws.Passed.{step-done}
 use Rattle.machine.specs.Laws.Kept.{Formed, allowed-at, step-kept}
@@ -36,10 +36,6 @@ use Rattle.machine.specs.declared.Width.{Width}
 use Rattle.machine.specs.declared.Width.the-variants.{Byte, Word, Long}
 use Rattle.machine.specs.declared.Place.{Place}
 use Rattle.machine.specs.declared.Place.the-variants.{Memory, Local, Cell, Nowhere}
-
--- what a run leaves exists
-abbrev pub ExistAfter : After → Type 0
-ExistAfter a = Exist (a .memory) (a .ran .machine)
 
 -- what a row brings
 pub record RowFits (row : Row) : Type 0 where
