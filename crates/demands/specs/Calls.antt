@@ -15,7 +15,7 @@ pub record Carries (state : List ℕ) (m : Machine) : Type 0 where
   pub spelled : layout.state .bytes m ≡ state
 
 -- a call ran the machine, and the bytes that it handed back carry the machine that the run left
-pub record Called (memory : List ℕ) (budget : ℕ) (m : Machine) (handed : Handed) : Type 0 where
+pub record Handled (memory : List ℕ) (budget : ℕ) (m : Machine) (handed : Handed) : Type 0 where
   pub as-run : handed ≡ handedBack (runOf memory m budget)
   pub carried : Carries (handed .state) (runOf memory m budget .ran .machine)
 

@@ -1,14 +1,14 @@
 -- Laws of parts that stand in a state: a number that was read, a row that is filled, the fields of a record one after the other.
 use mathlib.Core.List.{List, [], _∷_, _++_}
 use mathlib.Core.Path.{_≡_, refl, sym, ap, subst, _∙_}
-use Prim.Native.Nat.{ℕ, suc, _+_, _*_, _≤_, _<_}
+use Prim.Native.Nat.{ℕ, _+_, _*_, _≤_, _<_}
 use native.Mathlib.Nat.{suc-mul, zero-mul}
 use native.Mathlib.Numerals.{add-one}
 use native.Mathlib.Omega.{arith}
 use lib.ListN.{length, take, drop, set, length-set}
 use lib.Seq.{drop-drop, take-add, take-suc-set, take-all, length-take-le}
 use borrow.Author.Tests.{le-leb}
-use Rattle.plain.specs.Answer.{Answer, refuses, gives}
+use Rattle.plain.specs.Answer.{refuses, gives}
 use Rattle.numbers.specs.Bytes.{numberAt}
 use Rattle.numbers.specs.Slices.{readAt}
 use Rattle.numbers.specs.Laws.Bytes.{Bytes, number-below, spelled-number}

@@ -1,3 +1,5 @@
+-- what the sums of the parts come to
+pub mod Sizes
 -- one more element of a row
 pub mod Rows
 -- bytes are as many as the width says, and stand for one value

@@ -1,4 +1,5 @@
--- A whole machine as bytes, and what its run counted. What joins the machine stands at the end of its list.
+-- A whole machine as bytes, and what its run counted: a cell takes 4 bytes, a stack pointer or a copy of one takes 8, the highest byte first.
+-- What joins the machine later joins the end of its list, so that every place before it stays.
 use mathlib.Core.List.{List, [], _∷_}
 use Prim.Native.Nat.{ℕ}
 use Rattle.links.specs.Depths.{cellsDepth, returnsDepth, framesCount, levelsCount, localsCount, levelCells}
@@ -13,22 +14,24 @@ use Rattle.state.specs.Parts.{Part, Field, _of_, number, row, fields}
 abbrev pub cell : Part ℕ
 cell = number 4
 
--- a stack pointer or a copy of one
 abbrev pub pointer : Part ℕ
 pointer = number 8
 
+-- a subroutine level: its locals, the copy of R, the return address
 abbrev pub frameFields : List (Field Frame)
 frameFields = row localsCount cell of (λ f. f .locals) ∷ pointer of (λ f. f .r) ∷ cell of (λ f. f .address) ∷ []
 
 abbrev pub frame : Part Frame
 frame = fields frameFields
 
+-- an exception level: its cells, the copies of S and of P, the throw address
 abbrev pub levelFields : List (Field Level)
 levelFields = row levelCells cell of (λ l. l .cells) ∷ pointer of (λ l. l .s) ∷ pointer of (λ l. l .p) ∷ cell of (λ l. l .address) ∷ []
 
 abbrev pub level : Part Level
 level = fields levelFields
 
+-- the return cells and R, the subroutine levels and S, the exception levels and E
 abbrev pub linksFields : List (Field Links)
 linksFields =
     row returnsDepth cell of (λ l. l .returns)
@@ -42,6 +45,7 @@ linksFields =
 abbrev pub links : Part Links
 links = fields linksFields
 
+-- the parameter cells and P, the linked stacks, the program counter, the extend flag
 abbrev pub stateFields : List (Field Machine)
 stateFields =
     row cellsDepth cell of (λ m. m .cells)

@@ -7,13 +7,13 @@ ghost use Prim.Native.Nat.{_+_, _≤_};
 ghost use lib.ListN.{length};
 ghost use Rattle.links.specs.Depths.{framesCount, levelsCount};
 ghost use Rattle.state.specs.Parts.{row};
-ghost use Rattle.state.specs.Layout.{cell, pointer, frame, level, links};
+ghost use Rattle.state.specs.Layout as layout;
 ghost use Rattle.state.specs.Places.{Stands};
 
 // No place is outside: the answer that says so never comes.
 pub(crate) fn cell_at(state: &[u8], at: usize) -> u32
-    requires { ⌜ at + cell .width ≤ length (now state) ⌝ }
-    ensures { λ r. ⌜ Stands cell (now (state .entry)) at r ⌝ }
+    requires { ⌜ at + layout.cell .width ≤ length (now state) ⌝ }
+    ensures { λ r. ⌜ Stands layout.cell (now (state .entry)) at r ⌝ }
 {
     let found = numbers::read_four(state, at);
     let numbers::Found::Number(value) = found else {
@@ -23,8 +23,8 @@ pub(crate) fn cell_at(state: &[u8], at: usize) -> u32
 }
 
 pub(crate) fn pointer_at(state: &[u8], at: usize) -> usize
-    requires { ⌜ at + pointer .width ≤ length (now state) ⌝ }
-    ensures { λ r. ⌜ Stands pointer (now (state .entry)) at r ⌝ }
+    requires { ⌜ at + layout.pointer .width ≤ length (now state) ⌝ }
+    ensures { λ r. ⌜ Stands layout.pointer (now (state .entry)) at r ⌝ }
 {
     let found = numbers::read_eight(state, at);
     let numbers::FoundEight::Number(value) = found else {
@@ -35,8 +35,8 @@ pub(crate) fn pointer_at(state: &[u8], at: usize) -> usize
 
 // As many cells as there are to fill.
 pub(crate) fn fill(state: &[u8], from: usize, cells: &mut [u32])
-    requires { ⌜ from + row (length (now cells)) cell .width ≤ length (now state) ⌝ }
-    ensures { λ _. ⌜ Stands (row (length (now (cells .entry))) cell) (now (state .entry)) from (now (cells .exit)) ⌝ }
+    requires { ⌜ from + row (length (now cells)) layout.cell .width ≤ length (now state) ⌝ }
+    ensures { λ _. ⌜ Stands (row (length (now (cells .entry))) layout.cell) (now (state .entry)) from (now (cells .exit)) ⌝ }
 {
     let mut i = 0;
     while i < cells.len() {
@@ -46,8 +46,8 @@ pub(crate) fn fill(state: &[u8], from: usize, cells: &mut [u32])
 }
 
 fn frame_at(state: &[u8], at: usize) -> Frame
-    requires { ⌜ at + frame .width ≤ length (now state) ⌝ }
-    ensures { λ r. ⌜ Stands frame (now (state .entry)) at r ⌝ }
+    requires { ⌜ at + layout.frame .width ≤ length (now state) ⌝ }
+    ensures { λ r. ⌜ Stands layout.frame (now (state .entry)) at r ⌝ }
 {
     let mut locals = [0u32; Frame::LOCALS];
     fill(state, at, &mut locals);
@@ -57,8 +57,8 @@ fn frame_at(state: &[u8], at: usize) -> Frame
 }
 
 fn level_at(state: &[u8], at: usize) -> Level
-    requires { ⌜ at + level .width ≤ length (now state) ⌝ }
-    ensures { λ r. ⌜ Stands level (now (state .entry)) at r ⌝ }
+    requires { ⌜ at + layout.level .width ≤ length (now state) ⌝ }
+    ensures { λ r. ⌜ Stands layout.level (now (state .entry)) at r ⌝ }
 {
     let mut cells = [0u32; Level::CELLS];
     fill(state, at, &mut cells);
@@ -74,8 +74,8 @@ fn level_at(state: &[u8], at: usize) -> Level
 }
 
 fn frames_at(state: &[u8], from: usize) -> [Frame; Links::FRAMES]
-    requires { ⌜ from + row framesCount frame .width ≤ length (now state) ⌝ }
-    ensures { λ r. ⌜ Stands (row framesCount frame) (now (state .entry)) from r ⌝ }
+    requires { ⌜ from + row framesCount layout.frame .width ≤ length (now state) ⌝ }
+    ensures { λ r. ⌜ Stands (row framesCount layout.frame) (now (state .entry)) from r ⌝ }
 {
     let fresh = Links::fresh();
     let mut frames = fresh.frames;
@@ -88,8 +88,8 @@ fn frames_at(state: &[u8], from: usize) -> [Frame; Links::FRAMES]
 }
 
 fn levels_at(state: &[u8], from: usize) -> [Level; Links::LEVELS]
-    requires { ⌜ from + row levelsCount level .width ≤ length (now state) ⌝ }
-    ensures { λ r. ⌜ Stands (row levelsCount level) (now (state .entry)) from r ⌝ }
+    requires { ⌜ from + row levelsCount layout.level .width ≤ length (now state) ⌝ }
+    ensures { λ r. ⌜ Stands (row levelsCount layout.level) (now (state .entry)) from r ⌝ }
 {
     let fresh = Links::fresh();
     let mut levels = fresh.levels;
@@ -102,8 +102,8 @@ fn levels_at(state: &[u8], from: usize) -> [Level; Links::LEVELS]
 }
 
 pub(crate) fn links_at(state: &[u8], at: usize) -> Links
-    requires { ⌜ at + links .width ≤ length (now state) ⌝ }
-    ensures { λ r. ⌜ Stands links (now (state .entry)) at r ⌝ }
+    requires { ⌜ at + layout.links .width ≤ length (now state) ⌝ }
+    ensures { λ r. ⌜ Stands layout.links (now (state .entry)) at r ⌝ }
 {
     let mut returns = [0u32; Links::RETURNS];
     fill(state, at, &mut returns);

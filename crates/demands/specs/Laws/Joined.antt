@@ -1,8 +1,8 @@
 -- What is counted over one history after another is the sum.
-use mathlib.Core.Path.{_≡_, refl}
+use mathlib.Core.Path.{_≡_}
 use Prim.Native.Nat.{_+_}
 use native.Mathlib.Omega.{arith}
-use Rattle.demands.specs.History.{World, Moment, step, host, History, here, then, joined, stepsIn, cyclesIn}
+use Rattle.demands.specs.History.{World, step, host, History, here, then, joined, stepsIn, cyclesIn}
 
 pub steps-joined : {w u v : World} (h : History w u) (k : History u v) → stepsIn (joined h k) ≡ stepsIn h + stepsIn k
 steps-joined here k = omega arith

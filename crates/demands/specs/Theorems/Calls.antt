@@ -3,7 +3,7 @@ use mathlib.Core.Bool.{Bool, true, false}
 use mathlib.Core.List.{List}
 use mathlib.Core.Logic.{_⊎_}
 use mathlib.Core.Path.{_≡_, refl, sym, ap, _∙_, subst}
-use Prim.Native.Nat.{ℕ, _+_}
+use Prim.Native.Nat.{ℕ}
 use native.Mathlib.Omega.{arith}
 use lib.ListN.{length}
 use Rattle.machine.specs.Fits.{AllBytes, Exist}
@@ -16,7 +16,7 @@ use Rattle.state.specs.Laws.Fits.{machine-carried, machine-exists, machine-whol
 use Rattle.host.specs.Handed.{Handed, Hands, wrong-length, run, handedBack}
 use Rattle.demands.specs.History.{World, world, left, host, History, here, then, joined, stepsIn, cyclesIn, Resets}
 use Rattle.demands.specs.Back.{Back}
-use Rattle.demands.specs.Calls.{Carries, Called, Calls, over, call, OneHistory, Loses}
+use Rattle.demands.specs.Calls.{Carries, Handled, Calls, over, call, OneHistory, Loses}
 use Rattle.demands.specs.Laws.Course.{course}
 use Rattle.demands.specs.Laws.Joined.{steps-joined, cycles-joined}
 use Rattle.demands.specs.Theorems.Three.{three}
@@ -29,12 +29,12 @@ as-long : (state : List ℕ) (m : Machine) → Carries state m → length state 
 as-long state m carries = ap length (sym (carries .spelled)) ∙ state-sound .long m (carries .fit)
 
 -- A call runs the machine that the bytes carry, and hands back bytes that carry the machine that the run leaves.
-pub called : (state memory : List ℕ) (budget : ℕ) (result : List ℕ) (handed : Handed) (m : Machine) → Carries state m → length result ≡ layout.result .width
-    → Hands state memory budget result handed → Called memory budget m handed
-called state memory budget result handed m carries long (wrong-length h) =
+pub handled : (state memory : List ℕ) (budget : ℕ) (result : List ℕ) (handed : Handed) (m : Machine) → Carries state m → length result ≡ layout.result .width
+    → Hands state memory budget result handed → Handled memory budget m handed
+handled state memory budget result handed m carries long (wrong-length h) =
     absurd (h (as-long state m carries, long))
-called state memory budget result handed m carries long (run n all also fit is kept) =
-    subst (λ (x : Machine). Called memory budget x handed) (one-machine state n m (record { fit = fit; spelled = is }) carries)
+handled state memory budget result handed m carries long (run n all also fit is kept) =
+    subst (λ (x : Machine). Handled memory budget x handed) (one-machine state n m (record { fit = fit; spelled = is }) carries)
     (record { as-run = refl; carried = record { fit = kept; spelled = refl } })
 
 -- And such a call there is, whatever memory of bytes and whatever budget the host hands in: what the promise says of the machine that is
@@ -47,12 +47,12 @@ answered state memory budget result m carries bytes long =
     run m (as-long state m carries) long (carries .fit) (carries .spelled) (machine-carried (runOf memory m budget .ran .machine) (left .whole) (left .fits))
 
 -- So the next call takes the very machine that was left: two calls are the two runs, one after the other.
-pub called-again : (state memory later : List ℕ) (budget again : ℕ) (result other : List ℕ) (handed back : Handed) (m : Machine) → Carries state m
+pub handled-again : (state memory later : List ℕ) (budget again : ℕ) (result other : List ℕ) (handed back : Handed) (m : Machine) → Carries state m
     → length result ≡ layout.result .width → length other ≡ layout.result .width
     → Hands state memory budget result handed → Hands (handed .state) later again other back
-    → Called later again (runOf memory m budget .ran .machine) back
-called-again state memory later budget again result other handed back m carries long also first second =
-    called (handed .state) later again other back (runOf memory m budget .ran .machine) (called state memory budget result handed m carries long first .carried) also second
+    → Handled later again (runOf memory m budget .ran .machine) back
+handled-again state memory later budget again result other handed back m carries long also first second =
+    handled (handed .state) later again other back (runOf memory m budget .ran .machine) (handled state memory budget result handed m carries long first .carried) also second
 
 -- a whole run as a history: its steps and cycles are those that it reports
 record Ran (memory : List ℕ) (m : Machine) (a : After) : Type 0 where

@@ -1,9 +1,9 @@
 -- No second answer, and a machine that was given is taken back as it was.
 use mathlib.Core.List.{List}
-use mathlib.Core.Path.{_≡_, refl, sym, ap, _∙_}
+use mathlib.Core.Path.{_≡_, refl, sym, _∙_}
 use Prim.Native.Nat.{ℕ}
 use lib.ListN.{length}
-use Rattle.plain.specs.Answer.{Answer, refuses, gives}
+use Rattle.plain.specs.Answer.{Answer, gives}
 use Rattle.machine.specs.declared.Machine.{Machine}
 use Rattle.state.specs.Parts.{Part}
 use Rattle.state.specs.Layout.{state}

@@ -1,0 +1,38 @@
+-- What the sums of the parts come to, for hosts that write the numbers down.
+use mathlib.Core.List.{List, [], _∷_}
+use mathlib.Core.Path.{_≡_, refl}
+use Prim.Native.Nat.{ℕ, _+_}
+use Rattle.state.specs.Parts.{Field}
+use Rattle.state.specs.Layout.{frame, level, linksFields, links, stateFields, state, resultFields, result}
+
+-- where each field begins, after so many bytes
+abbrev placesFrom : {A : Type 0} → ℕ → List (Field A) → List ℕ
+placesFrom at [] = []
+placesFrom at (f ∷ fs) = at ∷ placesFrom (at + f .part .width) fs
+
+-- cells, P, links, counter, flag
+pub state-places : placesFrom 0 stateFields ≡ 0 ∷ 256 ∷ 264 ∷ 3520 ∷ 3524 ∷ []
+state-places = refl
+
+pub state-takes : state .width ≡ 3528
+state-takes = refl
+
+-- within the links: return cells, R, frames of 76 bytes, S, exception levels of 52 bytes, E
+pub links-places : placesFrom 0 linksFields ≡ 0 ∷ 256 ∷ 264 ∷ 2772 ∷ 2780 ∷ 3248 ∷ []
+links-places = refl
+
+pub links-take : links .width ≡ 3256
+links-take = refl
+
+pub frame-takes : frame .width ≡ 76
+frame-takes = refl
+
+pub level-takes : level .width ≡ 52
+level-takes = refl
+
+-- answer, steps, cycles
+pub result-places : placesFrom 0 resultFields ≡ 0 ∷ 8 ∷ 16 ∷ []
+result-places = refl
+
+pub result-takes : result .width ≡ 24
+result-takes = refl
