@@ -6,6 +6,8 @@ pub mod Course
 pub mod Added
 -- which of several tests gives the answer
 pub mod Lowest
+-- demand 1: what a run of any input leaves
+pub mod One
 -- runs one after another
 pub mod Sessions
 -- when a machine is back where it was before a CATCH

@@ -1,6 +1,5 @@
 -- What the links of a machine that exists can hold: cells and addresses of 32 bits, pointers and copies of 64.
 use mathlib.Core.Path.{_≡_}
-use mathlib.Core.List.{List}
 use Prim.Native.Nat.{ℕ, _^_, _<_}
 use lib.ListN.{length}
 use Rattle.plain.specs.All.{All}

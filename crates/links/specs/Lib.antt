@@ -6,6 +6,8 @@ pub mod Linked
 pub mod Actions
 -- when an action is not refused
 pub mod Allowed
+-- what a call and a CATCH make
+pub mod Called
 -- links whose every number is zero
 pub mod Fresh
 -- when links are what they were, and the actions that drop levels

@@ -50,9 +50,9 @@ impl Links {
     pub const EXCEPTIONS: usize = 8;
 
     // The parameter stack's depth: a copy of P leaves room in it for the code that a THROW pushes.
-    pub const CELLS: usize = 64;
+    pub const PARAMETERS: usize = 64;
 
-    pub const MOST_COPY_OF_P: usize = Links::CELLS - 1;
+    pub const MOST_COPY_OF_P: usize = Links::PARAMETERS - 1;
 
     // Level 0 is there too: 33 frames and 9 exception levels.
     pub const FRAMES: usize = Links::SUBROUTINES + 1;

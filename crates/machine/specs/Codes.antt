@@ -66,7 +66,10 @@ bytesWith none = 1
 bytesWith (number bytes) = suc bytes
 bytesWith offset = 2
 
--- codes 00 to 3D
+-- codes 00 to 3D stand in a table
+abbrev pub tableEnd : ℕ
+tableEnd = 0x3E
+
 unfoldable pub table : List Entry
 table =
     -- 00 to 0D: instruction, operand, takes, puts, cycles

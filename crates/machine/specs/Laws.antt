@@ -20,9 +20,9 @@ pub mod Kept
 pub mod Accepted
 -- a step is one action on the linked stacks, and an allowed one
 pub mod Acts
--- a step keeps what a machine that exists can hold
-pub mod Carries
 -- readings that document 01 rules out
 pub mod Readings
 -- the starred lines of the bench sheet
 pub mod Starred
+-- a step and a run keep what a machine and a memory that exist can hold
+pub mod Carries

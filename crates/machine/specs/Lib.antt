@@ -18,6 +18,8 @@ pub mod Step
 pub mod Run
 -- the starred lines of the bench sheet
 pub mod Sheet
--- what a machine that exists can hold
+-- what a THROW of non-zero leaves
+pub mod Thrown
+-- what a machine and a memory that exist can hold
 pub mod Fits
 pub mod Laws

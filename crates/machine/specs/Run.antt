@@ -7,7 +7,7 @@ use lib.ListN.{length}
 use Rattle.plain.specs.Choice.{both}
 use Rattle.machine.specs.Limits.{memoryLength, mostBudget}
 use Rattle.machine.specs.State.{wellFormed}
-use Rattle.machine.specs.Step.{Stepped, refused, done, stepOf}
+use Rattle.machine.specs.Step.{refused, done, stepOf}
 use Rattle.machine.specs.declared.Machine.{Machine}
 use Rattle.machine.specs.declared.Ran.{Ran}
 

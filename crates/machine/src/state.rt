@@ -6,7 +6,7 @@ ghost use Rattle.machine.specs.State.{freshMachine};
 
 impl Machine {
     // How deep each stack may grow.
-    pub const CELLS: usize = Links::CELLS;
+    pub const CELLS: usize = Links::PARAMETERS;
 
     pub const RETURNS: usize = Links::RETURNS;
 

@@ -1,6 +1,6 @@
 -- While the exception level of a CATCH stands: one more moment leaves it standing, is a RESETSP, or brings the machine back.
 use mathlib.Core.Logic.{_⊎_, inl, inr, ⊎-elim}
-use mathlib.Core.Path.{_≡_, refl, sym, ap, _∙_, subst}
+use mathlib.Core.Path.{_≡_, sym, ap, _∙_, subst}
 use mathlib.Core.List.{List, [], _∷_}
 use Prim.Native.Nat.{ℕ, suc, _+_, _-_, _%_, _^_, _<_, _≤_}
 use native.Mathlib.Omega.{arith}
@@ -13,14 +13,14 @@ use Rattle.links.specs.Restored.{Restored}
 use Rattle.links.specs.Laws.Stands.{Stands, Gone, by-reset, by-exit as links-exit, by-pop as links-pop, by-throw as links-throw}
 use Rattle.links.specs.Laws.Standing.{caught, next}
 use Rattle.links.specs.declared.Links.{Links}
-use Rattle.machine.specs.Codes.{Link, R>, CATCH, RESETSP, THROW, EXIT, Op, LINK, entryAt, table}
+use Rattle.machine.specs.Codes.{Link, R>, RESETSP, THROW, EXIT, Op, LINK, entryAt, table}
 use Rattle.machine.specs.State.{Whole}
 use Rattle.machine.specs.Fetch.{instruction, instructionAt}
 use Rattle.machine.specs.Rows.{Row, rowOf, top}
 use Rattle.machine.specs.Step.{done, stepOf, put, rowAt, testsAt}
 use Rattle.machine.specs.Laws.Passed.{step-done, passed-at}
 use Rattle.machine.specs.Laws.Marks.{codeOf, marked}
-use Rattle.machine.specs.Laws.Told.{Tells, Throwing}
+use Rattle.machine.specs.Laws.Told.{Tells}
 use Rattle.machine.specs.Laws.Kept.{Formed, Good, step-kept, fair-at}
 use Rattle.machine.specs.Laws.Acts.{step-acts}
 use Rattle.machine.specs.declared.Machine.{Machine}

@@ -1,9 +1,9 @@
 -- What a code takes and puts stands in its table: P after a step by the code alone.
-use mathlib.Core.Path.{_≡_, refl, ap, _∙_, subst}
+use mathlib.Core.Path.{_≡_, ap, subst}
 use Prim.Native.Nat.{ℕ, _+_, _-_, _≤_}
 use native.Mathlib.Omega.{arith}
 use lib.ListN.{length}
-use Rattle.machine.specs.Codes.{THROW, RESETSP, LINK, entryAt}
+use Rattle.machine.specs.Codes.{THROW, RESETSP, entryAt}
 use Rattle.machine.specs.Fetch.{instructionAt}
 use Rattle.machine.specs.Step.{done, stepOf, rowAt, testsAt}
 use Rattle.machine.specs.Laws.Passed.{step-done, passed-at}

@@ -10,34 +10,24 @@ use Rattle.plain.specs.Choice.{pick, both}
 use Rattle.machine.specs.Run.{After, ended, runFrom, runOf, acceptable}
 use Rattle.plain.specs.Laws.Choice.{both-parts}
 use Rattle.machine.specs.declared.Machine.{Machine}
-use Rattle.demands.specs.History.{world, stepsIn}
-use Rattle.demands.specs.Course.{Course, Reason, spent, stopped}
+use Rattle.demands.specs.History.{stepsIn}
+use Rattle.demands.specs.Course.{Reason, spent, stopped}
 use Rattle.demands.specs.Laws.Course.{course}
+use Rattle.demands.specs.One.{One}
+use Rattle.demands.specs.Lowest.{highest}
 use Rattle.demands.specs.Laws.Refused.{listed, refused-listed}
 
--- what a run of any memory, machine and budget leaves
-pub record One (mem : List ℕ) (m : Machine) (budget : ℕ) (a : After) : Type 0 where
-  -- it ends, and with a number of the list: no run hangs, and none invents an answer
-  pub answered : a .ran .answer ≤ 13
-  -- it counts no more steps than its budget
-  pub within-budget : a .ran .steps .0 ≤ budget
-  -- answer 2 is for input that is not acceptable, with zero steps and cycles and everything as it was
-  pub untouched : a .ran .answer ≡ 2 → (acceptable mem m budget ≡ false) × (a ≡ ended 2 mem m 0 0)
-  -- any other answer comes after completed instructions alone. Memory, machine and counters are as they left them: the budget is
-  -- spent, or the instruction that the counter is on is refused with this answer and has altered nothing
-  pub as-before : (a .ran .answer ≡ 2 → ⊥) → (acceptable mem m budget ≡ true) × Course budget (world mem m) 0 0 a
-
-not-two : (k : ℕ) → T (listed k) → (k ≤ 13) × (k ≡ 2 → ⊥)
+not-two : (k : ℕ) → T (listed k) → (k ≤ highest) × (k ≡ 2 → ⊥)
 not-two k t = go (eqb k 0) refl t
   where
-    go : (b : Bool) → eqb k 0 ≡ b → T (pick b true (both (leb 3 k) (leb k 13))) → (k ≤ 13) × (k ≡ 2 → ⊥)
+    go : (b : Bool) → eqb k 0 ≡ b → T (pick b true (both (leb 3 k) (leb k highest))) → (k ≤ highest) × (k ≡ 2 → ⊥)
     go true z t = let e : k ≡ 0 = eqb-true k 0 z in (omega arith, λ (is : k ≡ 2). omega arith)
     go false z t =
-        let p = both-parts (leb 3 k) (leb k 13) t in
+        let p = both-parts (leb 3 k) (leb k highest) t in
         let low : 3 ≤ k = leb→le 3 k (p .0) in
-        (leb→le k 13 (p .1), λ (is : k ≡ 2). omega arith)
+        (leb→le k highest (p .1), λ (is : k ≡ 2). omega arith)
 
-reason-answer : (budget n : ℕ) (a : After) → Reason budget n a → (a .ran .answer ≤ 13) × (a .ran .answer ≡ 2 → ⊥)
+reason-answer : (budget n : ℕ) (a : After) → Reason budget n a → (a .ran .answer ≤ highest) × (a .ran .answer ≡ 2 → ⊥)
 reason-answer budget n a (spent e is) = (omega arith, λ (two : a .ran .answer ≡ 2). omega arith)
 reason-answer budget n a (stopped e below) = not-two (a .ran .answer) (refused-listed (a .memory) (a .ran .machine) (a .ran .answer) e)
 

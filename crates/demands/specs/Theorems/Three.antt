@@ -1,7 +1,7 @@
 -- Demand 3: whatever a caught word does, when its CATCH's exception level is gone the machine is back where it was before the CATCH.
 -- However deep the calls and however many the inner CATCHes, over any number of runs, with any memory from the host between them.
 use mathlib.Core.Logic.{_⊎_, ⊎-elim}
-use mathlib.Core.Path.{_≡_, ap}
+use mathlib.Core.Path.{_≡_}
 use Prim.Native.Nat.{ℕ, _<_, _≤_}
 use native.Mathlib.Omega.{arith}
 use Rattle.machine.specs.Step.{done, stepOf}

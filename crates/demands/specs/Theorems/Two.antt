@@ -7,7 +7,7 @@ use native.Mathlib.Omega.{arith}
 use lib.ListN.{getD}
 use Rattle.machine.specs.Limits.{mostBudget}
 use Rattle.machine.specs.State.{Whole}
-use Rattle.machine.specs.Codes.{cycleTable}
+use Rattle.machine.specs.Codes.{tableEnd, cycleTable}
 use Rattle.machine.specs.Fetch.{instructionAt}
 use Rattle.machine.specs.Rows.{top}
 use Rattle.machine.specs.Checks.{Test}
@@ -22,7 +22,7 @@ use Rattle.demands.specs.History.{World, world, codeAt, costAt}
 use Rattle.demands.specs.Course.{Course}
 use Rattle.demands.specs.Laws.Course.{course}
 use Rattle.demands.specs.Added.{added}
-use Rattle.demands.specs.Lowest.{Applies, First, Lowest}
+use Rattle.demands.specs.Lowest.{Applies, First, Lowest, apart}
 use Rattle.demands.specs.Laws.Lowest.{none-applies}
 use Rattle.demands.specs.Laws.Refused.{refused-first, refused-lowest}
 use Rattle.demands.specs.Laws.Carried.{unrefused}
@@ -83,7 +83,7 @@ pub counts : (mem : List ℕ) (m : Machine) (budget : ℕ) → acceptable mem m 
 counts mem m budget e = subst (λ (a : After). Course budget (world mem m) 0 0 a) (sym (starts mem m budget e)) (course budget mem m 0 0)
 
 -- What an instruction takes: by the cycle table, but 2 for a branch and 1 for THROW of 0.
-pub by-table : (w : World) → codeAt w < 62 → (codeAt w ≡ 0x0D → top (w .machine) ≡ 0 → ⊥) → costAt w ≡ getD cycleTable (codeAt w) 0
+pub by-table : (w : World) → codeAt w < tableEnd → (codeAt w ≡ 0x0D → top (w .machine) ≡ 0 → ⊥) → costAt w ≡ getD cycleTable (codeAt w) 0
 unfolding instructionAt
 by-table w below other = by-code (instructionAt (w .memory) (w .machine .counter)) (w .machine) other ∙ sym (cycle-at (codeAt w) below)
 
@@ -115,8 +115,8 @@ first-given mem m k e = refused-first mem m k e
 
 -- That is the lowest number that applies, and a step is carried out exactly where none applies. This rules out a machine that
 -- refuses at will, or that carries out what should be refused.
-pub lowest-given : (mem : List ℕ) (m : Machine) (k : ℕ) → stepOf mem m ≡ refused k → Lowest k (testsAt mem m)
-lowest-given mem m k e = refused-lowest mem m k e
+pub lowest-given : (mem : List ℕ) (m : Machine) (k : ℕ) → stepOf mem m ≡ refused k → apart k ≡ false → Lowest k (testsAt mem m)
+lowest-given mem m k e placed = refused-lowest mem m k e placed
 
 pub none-applied : (mem : List ℕ) (m : Machine) (mem′ : List ℕ) (m′ : Machine) (cost : ℕ) → stepOf mem m ≡ done mem′ m′ cost →
     (k : ℕ) → Applies k (testsAt mem m) → ⊥

@@ -12,6 +12,7 @@ use Rattle.plain.specs.All.{All}
 use Rattle.plain.specs.Laws.All.{all-read, all-set, all-sets}
 use Rattle.numbers.specs.Bytes.{bytesOf}
 use Rattle.numbers.specs.Laws.Bytes.{Bytes, number-below, bytes-first}
+use Rattle.links.specs.Linked.{frameAt, levelAt}
 use Rattle.links.specs.Fits.{CellFits, LinksFit}
 use Rattle.links.specs.Laws.Carries.{ActFits, frame-in-view, level-in-view, act-fits}
 use Rattle.word.specs.Dispatch.{twoCellsOf}
@@ -25,7 +26,7 @@ use Rattle.machine.specs.Fetch.{Instruction, operandAt, instructionAt}
 use Rattle.machine.specs.Rows.{Row, top, second, topReturn, localsInView, cellsInView, cells, throwRow, rowOf, linkRow, shuffled, target, twoRow, fetchRow, storeRow}
 use Rattle.machine.specs.Step.{Stepped, refused, done, stepOf, rowAt}
 use Rattle.machine.specs.Run.{After, ended, runFrom, acceptable, runOf}
-use Rattle.machine.specs.Fits.{Fits, AllBytes, Exist}
+use Rattle.machine.specs.Fits.{Fits, AllBytes, Exist, ExistAfter}
 use Rattle.machine.specs.Laws.Tables.{Everywhere, at-code}
 use Rattle.machine.specs.Laws.Passed.{step-done}
 use Rattle.machine.specs.Laws.Kept.{Formed, allowed-at, step-kept}
@@ -35,10 +36,6 @@ use Rattle.machine.specs.declared.Width.{Width}
 use Rattle.machine.specs.declared.Width.the-variants.{Byte, Word, Long}
 use Rattle.machine.specs.declared.Place.{Place}
 use Rattle.machine.specs.declared.Place.the-variants.{Memory, Local, Cell, Nowhere}
-
--- what a run leaves exists
-abbrev pub ExistAfter : After → Type 0
-ExistAfter a = Exist (a .memory) (a .ran .machine)
 
 -- what a row brings
 pub record RowFits (row : Row) : Type 0 where
@@ -95,15 +92,17 @@ module _ (i : Instruction) (mem : List ℕ) (m : Machine) (operand-fits : CellFi
   return-fits : CellFits (topReturn m)
   return-fits = all-read CellFits (m .links .returns) (h .links-fit .returns-fit) (m .links .r - 1) 0 (omega arith)
 
+  -- the addresses in the levels in view
+  return-address : CellFits (frameAt (m .links) (m .links .s) .address)
+  return-address = frame-in-view (m .links) (whole .shaped) (formed .sound) (h .links-fit) .address-fits
+
+  throw-address : CellFits (levelAt (m .links) (m .links .e) .address)
+  throw-address = level-in-view (m .links) (whole .shaped) (formed .sound) (h .links-fit) .address-fits
+
   throw-fits : (b : Bool) → RowFits (pick b (cells i mem m []) (throwRow i mem m))
   throw-fits true = stays-fit [] tt
   throw-fits false =
-      record {
-        puts-fit = (cell-at _, tt);
-        goes-fits = level-in-view (m .links) (whole .shaped) (formed .sound) (h .links-fit) .address-fits;
-        link-fits = tt;
-        memory-fits = bytes;
-      }
+      record { puts-fit = (cell-at _, tt); goes-fits = throw-address; link-fits = tt; memory-fits = bytes }
 
   link-row-fits : (o : Link) → RowFits (linkRow i mem m o)
   link-row-fits >R = record { puts-fit = tt; goes-fits = next-fits; link-fits = cell-at _; memory-fits = bytes }
@@ -115,12 +114,7 @@ module _ (i : Instruction) (mem : List ℕ) (m : Machine) (operand-fits : CellFi
   link-row-fits JSL = record { puts-fit = tt; goes-fits = operand-fits; link-fits = next-fits; memory-fits = bytes }
   link-row-fits JSR = record { puts-fit = tt; goes-fits = cell-at _; link-fits = next-fits; memory-fits = bytes }
   link-row-fits EXIT =
-      record {
-        puts-fit = tt;
-        goes-fits = frame-in-view (m .links) (whole .shaped) (formed .sound) (h .links-fit) .address-fits;
-        link-fits = tt;
-        memory-fits = bytes;
-      }
+      record { puts-fit = tt; goes-fits = search (return-address, return-fits); link-fits = tt; memory-fits = bytes }
 
   two-row-fits : (o : Outcome) → CellsFit o → RowFits (twoRow i mem m o)
   two-row-fits (Single value flag) f = record { puts-fit = (f, tt); goes-fits = next-fits; link-fits = tt; memory-fits = bytes }

@@ -1,5 +1,5 @@
 -- Clock cycles: each instruction takes from 1 to 42, so n steps report from n to 42n.
-use mathlib.Core.Path.{_≡_, refl, ap, _∙_, sym, subst}
+use mathlib.Core.Path.{_≡_, refl, ap, _∙_, sym}
 use mathlib.Core.Bool.{Bool, true, false}
 use mathlib.Core.List.{List, map}
 use Prim.Native.Nat.{ℕ, zero, suc, _+_, _*_, _≤_, _<_}
@@ -9,7 +9,7 @@ use lib.Dec.{leb, ltb, eqb, leb→le}
 use lib.ListN.{getD, List·getD-map, List·getD-eq-default}
 use Rattle.plain.specs.Choice.{pick, both}
 use Rattle.plain.specs.Laws.Choice.{both-parts}
-use Rattle.machine.specs.Codes.{Entry, unknown, entryBEQ, entryBRA, table, entryAt, cyclesOf, cycleTable}
+use Rattle.machine.specs.Codes.{Entry, unknown, entryBEQ, entryBRA, tableEnd, table, entryAt, cyclesOf, cycleTable}
 use Rattle.machine.specs.Fetch.{Instruction, instructionAt}
 use Rattle.machine.specs.Rows.{top}
 use Rattle.machine.specs.Step.{Stepped, refused, done, stepOf, costOf, cyclesOfThrowOfZero}
@@ -37,7 +37,7 @@ picked code a e =
     e
 
 -- an entry of the cycle table is the code's cycles
-pub cycle-at : (code : ℕ) → code < 62 → getD cycleTable code 0 ≡ cyclesOf code
+pub cycle-at : (code : ℕ) → code < tableEnd → getD cycleTable code 0 ≡ cyclesOf code
 unfolding cycleTable table
 cycle-at code h =
     getD-within (map (λ (e : Entry). e .cycles) table) code 0 1 h ∙
@@ -45,7 +45,7 @@ cycle-at code h =
     sym (ap (λ (e : Entry). e .cycles) (picked code true (lt-ltb code 0x80 (omega arith)))))
 
 -- past the table a code below 80 counts as 1, and a branch as 2
-pub cycle-past : (code : ℕ) → 62 ≤ code → code < 0x80 → cyclesOf code ≡ 1
+pub cycle-past : (code : ℕ) → tableEnd ≤ code → code < 0x80 → cyclesOf code ≡ 1
 unfolding table
 cycle-past code h k =
     ap (λ (e : Entry). e .cycles)

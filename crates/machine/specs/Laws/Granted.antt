@@ -1,18 +1,18 @@
 -- The tests let through only actions that the linked stacks allow.
-use mathlib.Core.Path.{_≡_, refl, sym, _∙_, subst}
+use mathlib.Core.Path.{_≡_, refl, subst}
 use mathlib.Core.Bool.{Bool, true, false}
 use Prim.Native.Nat.{ℕ, _<_, _≤_}
 use native.Mathlib.Omega.{arith}
 use borrow.Author.Tests.{eqb-false, leb-false, ltb-false}
-use lib.Dec.{T, leb, eqb}
-use Rattle.plain.specs.Choice.{pick, both, decided}
+use lib.Dec.{eqb}
+use Rattle.plain.specs.Choice.{pick, decided}
 use Rattle.links.specs.Depths.{cellsDepth, returnsDepth, subroutinesDepth, exceptionsDepth}
 use Rattle.links.specs.Actions.{Act, still, push, call, catch, exit, pop, throw, keep, reset}
 use Rattle.links.specs.Allowed.{Allowed}
 use Rattle.machine.specs.Codes.{entryAt}
 use Rattle.machine.specs.Fetch.{Instruction}
 use Rattle.machine.specs.Rows.{Row, Lack, nothing, aReturnCell, Lack-discrete}
-use Rattle.machine.specs.Checks.{needs, among, aFrame, aLevel, returnRoom, frameRoom, levelRoom, lacks, tests}
+use Rattle.machine.specs.Checks.{tests}
 use Rattle.machine.specs.Laws.Passed.{AllPass, passed-at}
 use Rattle.machine.specs.Laws.Marks.{catch-takes}
 use Rattle.machine.specs.Laws.Told.{Tells}

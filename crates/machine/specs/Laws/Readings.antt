@@ -2,17 +2,17 @@
 use mathlib.Core.Path.{_≡_, ap, _∙_}
 use mathlib.Core.Bool.{Bool}
 use mathlib.Core.List.{List, []}
-use Prim.Native.Nat.{ℕ, suc, _+_}
+use Prim.Native.Nat.{ℕ, _+_}
 use native.Mathlib.Omega.{arith}
 use borrow.Author.Tests.{ne-eqb}
 use Rattle.plain.specs.Choice.{pick}
 use Rattle.numbers.specs.Bytes.{byteAt}
-use Rattle.links.specs.Linked.{frameAt, levelAt, copyOfR, copyOfS, copyOfP}
-use Rattle.links.specs.Actions.{throw}
+use Rattle.links.specs.Linked.{frameAt, copyOfP}
 use Rattle.machine.specs.Codes.{THROW, LINK, entryAt, table}
 use Rattle.machine.specs.Fetch.{Instruction, instructionAt}
 use Rattle.machine.specs.Rows.{Row, rowOf, top, cells, throwRow}
 use Rattle.machine.specs.Step.{done, stepOf, put, rowAt}
+use Rattle.machine.specs.Thrown.{Thrown}
 use Rattle.machine.specs.Laws.Passed.{step-done}
 use Rattle.machine.specs.declared.Machine.{Machine}
 
@@ -33,13 +33,6 @@ pub exit-goes : (mem : List ℕ) (m : Machine) (mem′ : List ℕ) (m′ : Machi
 unfolding entryAt table rowOf
 exit-goes mem m mem′ m′ k e is =
     ap (λ (x : Machine). x .counter) (left-by mem m mem′ m′ k _ (row-of mem m 0x3D is) e)
-
--- a THROW that is thrown: on at the throw address, S and R by the copies (R from the level above S), P by its copy and one for the code
-pub record Thrown (m m′ : Machine) : Type 0 where
-  pub goes : m′ .counter ≡ levelAt (m .links) (m .links .e) .address
-  pub s-copied : m′ .links .s ≡ copyOfS (m .links .levels) (m .links .e)
-  pub r-copied : m′ .links .r ≡ copyOfR (m .links .frames) (suc (copyOfS (m .links .levels) (m .links .e)))
-  pub p-copied : m′ .p ≡ suc (copyOfP (m .links .levels) (m .links .e))
 
 throw-row : (i : Instruction) (mem : List ℕ) (m : Machine) → (top m ≡ 0 → ⊥) → rowOf i mem m (LINK THROW) ≡ throwRow i mem m
 unfolding rowOf

@@ -19,7 +19,7 @@ use Rattle.word.specs.declared.Outcome.the-variants.{Single, Double, DivisorZer
 use Rattle.machine.specs.Codes.{Link, >R, R-AT, R>, CATCH, RESETSP, THROW, JSL, JSR, EXIT, Op, SHUFFLE, JUMP, LINK, ONE, TWO, FETCH, STORE, LITERAL, entryAt}
 use Rattle.machine.specs.Memory.{size, placeOf}
 use Rattle.machine.specs.Fetch.{Instruction}
-use Rattle.machine.specs.Rows.{Row, Lack, nothing, aReturnCell, top, second, rowOf, linkRow, cells, twoRow, fetchRow, storeRow, throwRow}
+use Rattle.machine.specs.Rows.{Row, nothing, aReturnCell, top, second, rowOf, linkRow, cells, twoRow, fetchRow, storeRow, throwRow}
 use Rattle.machine.specs.declared.Machine.{Machine}
 use Rattle.machine.specs.declared.Width.{Width}
 use Rattle.machine.specs.declared.Place.{Place}
