@@ -11,7 +11,8 @@ use Rattle.numbers.specs.Putting.{Added}
 use Rattle.numbers.specs.Laws.Putting.{added-then, added-text}
 use Rattle.machine.specs.declared.Ran.{Ran}
 use Rattle.report.specs.Text.{lineFeed, field, line, cellLines, numbersOf, textOf, refusalText}
-use Rattle.report.specs.Sizes.{longestField, mostCells, longest}
+use Rattle.report.specs.Sizes.{longestField, longest}
+use Rattle.links.specs.Depths.{cellsDepth}
 use Rattle.report.specs.Printing.{Reported, printedIn, untouched, reportOf, refusalOf}
 use Rattle.report.specs.Laws.Size.{field-size, text-size}
 
@@ -46,11 +47,11 @@ refusal-printed number out l m end reported room added is =
     is ∙ ap (λ (t : List ℕ). printedIn t out) (added-text added (omega arith))
 
 module _ (ran : Ran) (out : List ℕ) where
-  pub too-many : mostCells < ran .machine .p → untouched out ≡ reportOf ran out
+  pub too-many : cellsDepth < ran .machine .p → untouched out ≡ reportOf ran out
   unfolding reportOf
   too-many h = simp (lt-leb _ _ h)
 
-  pub run-printed : (numbers l m k : List ℕ) (first end : ℕ) (reported : Reported) → ran .machine .p ≤ mostCells → numbers ≡ numbersOf ran → length l ≡ longest
+  pub run-printed : (numbers l m k : List ℕ) (first end : ℕ) (reported : Reported) → ran .machine .p ≤ cellsDepth → numbers ≡ numbersOf ran → length l ≡ longest
       → Added l 0 (line numbers) m first → Added m first (cellLines (take (ran .machine .p) (ran .machine .cells))) k end
       → reported ≡ printedIn (take end k) out → reported ≡ reportOf ran out
   unfolding textOf reportOf

@@ -7,7 +7,7 @@ use Rattle.plain.specs.Answer.{Answer, refuses, gives}
 use Rattle.plain.specs.Choice.{pick}
 use Rattle.machine.specs.declared.Ran.{Ran}
 use Rattle.report.specs.Text.{textOf, refusalText}
-use Rattle.report.specs.Sizes.{mostCells}
+use Rattle.links.specs.Depths.{cellsDepth}
 use Rattle.report.specs.declared.Printed.{Printed}
 use Rattle.report.specs.declared.Printed.the-variants.{Text, Refused}
 
@@ -33,7 +33,7 @@ printedIn text out =
 
 -- a machine whose P passes its depth has no cells to print
 unfoldable pub reportOf : Ran → List ℕ → Reported
-reportOf ran out = pick (leb (ran .machine .p) mostCells) (printedIn (textOf ran) out) (untouched out)
+reportOf ran out = pick (leb (ran .machine .p) cellsDepth) (printedIn (textOf ran) out) (untouched out)
 
 unfoldable pub refusalOf : ℕ → List ℕ → Reported
 refusalOf number out = printedIn (refusalText number) out

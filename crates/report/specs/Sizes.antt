@@ -2,6 +2,7 @@
 use Prim.Native.Nat.{ℕ, _+_, _*_}
 use Rattle.numbers.specs.Digits.{mostDecimal}
 use Rattle.report.specs.Text.{cellDigits}
+use Rattle.links.specs.Depths.{cellsDepth}
 
 -- a number, and the character after it
 abbrev pub longestField : ℕ
@@ -18,9 +19,5 @@ longestLine = fields * longestField
 abbrev pub cellSize : ℕ
 cellSize = cellDigits + 1
 
--- the depth of the parameter stack
-abbrev pub mostCells : ℕ
-mostCells = 64
-
 abbrev pub longest : ℕ
-longest = longestLine + mostCells * cellSize
+longest = longestLine + cellsDepth * cellSize

@@ -10,7 +10,8 @@ ghost use mathlib.Core.Path.{_≡_};
 ghost use Prim.Native.Nat.{_+_, _*_, _≤_};
 ghost use lib.ListN.{length, take};
 ghost use Rattle.numbers.specs.Putting.{Added};
-ghost use Rattle.report.specs.Sizes.{longestField, longestLine, cellSize, mostCells};
+ghost use Rattle.report.specs.Sizes.{longestField, longestLine, cellSize};
+ghost use Rattle.links.specs.Depths.{cellsDepth};
 ghost use Rattle.report.specs.Text.{field, line, cellLine, cellLines, numbersOf};
 
 const SPACE: u8 = 0x20;
@@ -82,7 +83,7 @@ pub(crate) fn put_cells(
     cells: [u32; Machine::CELLS],
     count: usize,
 ) -> usize
-    requires { ⌜ (from + count * cellSize ≤ length (now text)) × (count ≤ mostCells) ⌝ }
+    requires { ⌜ (from + count * cellSize ≤ length (now text)) × (count ≤ cellsDepth) ⌝ }
     ensures { λ r. ⌜ (r ≤ from + count * cellSize) × Added (now (text .entry)) from (cellLines (take count cells)) (now (text .exit)) r ⌝ }
 {
     let mut at = from;

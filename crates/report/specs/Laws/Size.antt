@@ -14,7 +14,8 @@ use Rattle.numbers.specs.Laws.Digits.{decimal-short, decimal-some, length-hexad
 use Rattle.machine.specs.State.{wellFormed}
 use Rattle.machine.specs.declared.Ran.{Ran}
 use Rattle.report.specs.Text.{space, lineFeed, field, line, cellDigits, cellLine, cellLines, numbersOf, textOf, refusalText}
-use Rattle.report.specs.Sizes.{longestField, cellSize, mostCells, longest}
+use Rattle.report.specs.Sizes.{longestField, cellSize, longest}
+use Rattle.links.specs.Depths.{cellsDepth}
 use Rattle.report.specs.Printing.{printedIn, reportOf, refusalOf}
 
 pub field-size : (n end : ℕ) → (2 ≤ length (field n end)) × (length (field n end) ≤ longestField)
@@ -46,7 +47,7 @@ cells-size (v ∷ vs) =
     length-append (cellLine v) (cellLines vs) ∙ omega arith
 
 -- every run's text fits the longest: the constant LONGEST of the code
-pub text-size : (ran : Ran) → ran .machine .p ≤ mostCells → (16 ≤ length (textOf ran)) × (length (textOf ran) ≤ longest)
+pub text-size : (ran : Ran) → ran .machine .p ≤ cellsDepth → (16 ≤ length (textOf ran)) × (length (textOf ran) ≤ longest)
 unfolding textOf
 text-size ran h =
     let cells = take (ran .machine .p) (ran .machine .cells) in
@@ -62,19 +63,19 @@ both-first false b h = h
 
 pub well-formed-size : (ran : Ran) → wellFormed (ran .machine) ≡ true → (16 ≤ length (textOf ran)) × (length (textOf ran) ≤ longest)
 unfolding wellFormed
-well-formed-size ran h = text-size ran (leb-true _ _ (both-first (leb (ran .machine .p) mostCells) _ h))
+well-formed-size ran h = text-size ran (leb-true _ _ (both-first (leb (ran .machine .p) cellsDepth) _ h))
 
 -- so a buffer of the longest text's length is never too short
 fitting : (text out : List ℕ) → length text ≤ length out → printedIn text out ≡ record { printed = gives (length text); out = text ++ drop (length text) out }
 unfolding printedIn
 fitting text out h = simp (le-leb (length text) (length out) h)
 
-pub longest-suffices : (ran : Ran) (out : List ℕ) → ran .machine .p ≤ mostCells → longest ≤ length out
+pub longest-suffices : (ran : Ran) (out : List ℕ) → ran .machine .p ≤ cellsDepth → longest ≤ length out
     → reportOf ran out ≡ record { printed = gives (length (textOf ran)); out = textOf ran ++ drop (length (textOf ran)) out }
 unfolding reportOf
 longest-suffices ran out few room =
     let size = text-size ran few in
-    simp (le-leb (ran .machine .p) mostCells few) (fitting (textOf ran) out (omega arith))
+    simp (le-leb (ran .machine .p) cellsDepth few) (fitting (textOf ran) out (omega arith))
 
 pub refusal-fits : (number : ℕ) (out : List ℕ) → longest ≤ length out
     → refusalOf number out ≡ record { printed = gives (length (refusalText number)); out = refusalText number ++ drop (length (refusalText number)) out }
