@@ -1,7 +1,7 @@
 -- Arithmetic on one cell or two is carried out by the stores of what `word` gives.
 use mathlib.Core.Path.{_≡_, refl, ap, subst⁻¹}
 use mathlib.Core.List.{List, [], _∷_}
-use Prim.Native.Nat.{ℕ, suc, _+_, _-_, _≤_, _<_}
+use Prim.Native.Nat.{ℕ, _+_, _-_, _≤_, _<_}
 use native.Mathlib.Omega.{arith}
 use borrow.Author.Tests.{lt-ltb, le-ltb}
 use lib.ListN.{getD, set}

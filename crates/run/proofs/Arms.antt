@@ -3,7 +3,7 @@ use mathlib.Core.Path.{_≡_, refl, ap, sym, _∙_, subst, subst⁻¹}
 use mathlib.Core.Bool.{Bool, true, false}
 use mathlib.Core.List.{List}
 use mathlib.Core.Logic.{_⊎_, inl, inr}
-use Prim.Native.Nat.{ℕ, suc, _+_, _-_, _%_, _^_, _≤_, _<_}
+use Prim.Native.Nat.{ℕ, suc, _+_, _-_, _%_, _^_, _≤_}
 use native.Mathlib.Omega.{arith}
 use native.Mathlib.Numerals.{add-one}
 use borrow.Author.Tests.{le-ltb, ltb-false, eq-eqb, eqb-false}
@@ -11,23 +11,23 @@ use lib.Dec.{ltb, leb, eqb, leb·suc-suc}
 use lib.ListN.{getD, set}
 use lib.Seq.{sets, set-getD}
 use Rattle.plain.specs.Answer.{Answer, refuses, gives}
-use Rattle.plain.specs.Choice.{pick, both, decided}
+use Rattle.plain.specs.Choice.{pick, decided}
 use Rattle.numbers.specs.Bytes.{numberAt, bytesOf}
 use Rattle.links.specs.Depths.{cellsDepth, returnsDepth, subroutinesDepth, exceptionsDepth}
 use Rattle.links.specs.Actions.{calledFrame}
-use Rattle.links.specs.Linked.{noFrame, noLevel, frameAt, levelAt, copyOfR, copyOfS, copyOfP}
+use Rattle.links.specs.Linked.{noFrame, noLevel, copyOfR, copyOfS, copyOfP}
 use Rattle.links.specs.declared.Frame.{Frame}
 use Rattle.links.specs.declared.Level.{Level}
 use Rattle.machine.specs.Codes.{entryAt, table, cyclesOf, LINK, THROW, FETCH, STORE}
 use Rattle.machine.specs.Memory.{size, placeOf}
 use Rattle.machine.specs.Rows.{nothing, aReturnCell, aPlace, aDivisor, Lack-discrete, rowOf}
-use Rattle.machine.specs.Step.{Stepped, refused, done, costOf, carried}
+use Rattle.machine.specs.Step.{Stepped, done, costOf, carried}
 use Rattle.machine.specs.Laws.Prices.{by-code}
 use Rattle.machine.specs.declared.Machine.{Machine}
 use Rattle.machine.specs.declared.Width.{Width}
 use Rattle.machine.specs.declared.Place.{Place}
 use Rattle.machine.specs.declared.Place.the-variants.{Memory, Local, Cell, Nowhere}
-use Rattle.run.specs.Accesses.{widthOf, spotOf, reachOf}
+use Rattle.run.specs.Accesses.{widthOf, reachOf}
 use Rattle.run.specs.Answers.{stepBy}
 use Rattle.run.specs.Machines.{inside}
 use Rattle.run.specs.Promises.{Carries, Spells, Unaltered}

@@ -1,8 +1,8 @@
 -- Where the run's loop stands: what is left of the run from here is what the whole run is.
-use mathlib.Core.Path.{_≡_, refl, ap, sym, _∙_, subst}
-use mathlib.Core.Bool.{Bool, true, false}
+use mathlib.Core.Path.{_≡_, ap, sym, _∙_, subst}
+use mathlib.Core.Bool.{true}
 use mathlib.Core.List.{List, map}
-use Prim.Native.Nat.{ℕ, zero, suc, _+_, _-_, _*_, _≤_, _<_}
+use Prim.Native.Nat.{ℕ, suc, _+_, _-_, _*_, _≤_, _<_}
 use native.Mathlib.Omega.{arith}
 use lib.Dec.{leb, eqb, T, leb→le, eqb→eq}
 use lib.ListN.{length, length-map}
@@ -11,7 +11,7 @@ use Rattle.plain.specs.Laws.Choice.{both-parts, is-true}
 use Rattle.machine.specs.Limits.{memoryLength, mostBudget}
 use Rattle.machine.specs.State.{wellFormed, Whole}
 use Rattle.machine.specs.Fetch.{instructionAt}
-use Rattle.machine.specs.Step.{Stepped, refused, done, stepOf, costOf}
+use Rattle.machine.specs.Step.{Stepped, refused, done, stepOf}
 use Rattle.machine.specs.Run.{After, ended, runFrom, acceptable}
 use Rattle.machine.specs.Laws.Costs.{cost-bounded}
 use Rattle.machine.specs.Laws.Kept.{Formed, formed, step-kept}

@@ -1,17 +1,16 @@
 -- DUP, OVER, PSP@, ZERO, the literals and ?DUP put what a push of one cell puts.
-use mathlib.Core.Path.{_≡_, refl, ap, _∙_, sym}
-use mathlib.Core.Bool.{true, false}
+use mathlib.Core.Path.{_≡_, refl, ap, _∙_}
 use mathlib.Core.List.{List, [], _∷_}
-use Prim.Native.Nat.{ℕ, suc, _+_, _-_, _≤_, _<_}
+use Prim.Native.Nat.{ℕ, suc, _-_, _≤_, _<_}
 use native.Mathlib.Omega.{arith}
 use lib.ListN.{getD, set}
 use lib.Seq.{sets, set-getD}
-use Rattle.plain.specs.Answer.{refuses, gives}
+use Rattle.plain.specs.Answer.{refuses}
 use Rattle.links.specs.Depths.{cellsDepth}
 use Rattle.machine.specs.Rows.{rowOf}
 use Rattle.machine.specs.Codes.{SHUFFLE, DUP, OVER, PSP-AT, ZERO, LITERAL}
 use Rattle.run.specs.Promises.{Meets, pushed, pushedCells}
-use Rattle.run.proofs.OnCells.{few, went, by-push}
+use Rattle.run.proofs.OnCells.{few, by-push}
 
 module _ (operand next : ℕ) (cells : List ℕ) (p flag : ℕ) where
   -- writing a cell with what it holds, then the one above it

@@ -2,7 +2,7 @@
 use mathlib.Core.Path.{_≡_, refl}
 use mathlib.Core.Bool.{Bool, true, false}
 use mathlib.Core.List.{List}
-use Prim.Native.Nat.{ℕ, zero, suc, _+_, _-_, _/_, _%_, _≤_, _<_}
+use Prim.Native.Nat.{ℕ, _+_, _-_, _/_, _%_, _≤_, _<_}
 use native.Mathlib.Omega.{arith}
 use borrow.Author.Tests.{ltb-false, leb-true, leb-false, eqb-false}
 use lib.Dec.{ltb, leb, eqb}
@@ -13,7 +13,6 @@ use Rattle.links.specs.Depths.{cellsDepth, returnsDepth, subroutinesDepth, exce
 use Rattle.machine.specs.Limits.{memoryLength}
 use Rattle.machine.specs.Memory.{size, isLong, stands, firstLocal, lastLocal, firstCell, lastCell, placeOf}
 use Rattle.machine.specs.declared.Width.{Width}
-use Rattle.machine.specs.declared.Place.{Place}
 use Rattle.machine.specs.declared.Place.the-variants.{Memory, Local, Cell, Nowhere}
 use Rattle.run.specs.Accesses.{spotOf, reachOf}
 use Rattle.run.specs.Verdicts.{pushable, readable, callable, catchable, throwable, exitable}

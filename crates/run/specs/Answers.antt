@@ -1,5 +1,4 @@
 -- What each answer of the run's functions says: the paper's number of a refusal, or the values that it gives.
-use Prim.Native.Nat.{ℕ}
 use Rattle.plain.specs.Answer.{Answer, refuses, gives}
 use Rattle.machine.specs.Fetch.{Instruction}
 use Rattle.machine.specs.Step.{Stepped, refused}
