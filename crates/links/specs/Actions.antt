@@ -96,10 +96,11 @@ dropsFrame l = both (ltb 0 (l .s)) (leb (l .r - 1) (copyOfR (l .frames) (l .s)))
 abbrev pub eAfterDrop : Links → ℕ
 eAfterDrop l = pick (both (ltb 0 (l .e)) (leb (l .s - 1) (copyOfS (l .levels) (l .e)))) (l .e - 1) (l .e)
 
--- the level s + 1 that THROW takes R from, s being the copy of S in the top exception level
+-- S after a THROW: the copy in the top exception level
 abbrev pub thrownS : Links → ℕ
 thrownS l = copyOfS (l .levels) (l .e)
 
+-- R after a THROW: the copy in the subroutine level above that S
 abbrev pub thrownR : Links → ℕ
 thrownR l = copyOfR (l .frames) (suc (thrownS l))
 

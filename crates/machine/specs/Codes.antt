@@ -21,7 +21,7 @@ pub data Shuffle : Type 0 where
 pub data Jump : Type 0 where
   JMP BEQ BRA : Jump
 
--- those that read or move the linked stacks
+-- those on the return, subroutine and exception stacks
 pub data Link : Type 0 where
   >R R-AT R> CATCH RESETSP THROW JSL JSR EXIT : Link
 
@@ -72,76 +72,69 @@ tableEnd = 0x3E
 
 unfoldable pub table : List Entry
 table =
-    -- 00 to 0D: instruction, operand, takes, puts, cycles
-    entry (SHUFFLE NOP) none 0 0 1 ∷
-    entry (SHUFFLE DROP) none 1 0 1 ∷
-    entry (SHUFFLE DUP) none 1 2 1 ∷
-    entry (SHUFFLE SWAP) none 2 2 1 ∷
-    entry (SHUFFLE OVER) none 2 3 1 ∷
-    entry (SHUFFLE NIP) none 2 1 1 ∷
-    entry (SHUFFLE ROT) none 3 3 1 ∷
-    entry (LINK >R) none 1 0 1 ∷
-    entry (LINK R-AT) none 0 1 1 ∷
-    entry (LINK R>) none 0 1 1 ∷
-    entry (SHUFFLE PSP-AT) none 0 1 1 ∷
-    entry (LINK CATCH) none 1 0 2 ∷
-    entry (LINK RESETSP) none 0 0 1 ∷
-    entry (LINK THROW) none 1 1 3 ∷
-    -- 0E to 15
-    entry (TWO Plus) none 2 1 1 ∷
-    entry (TWO Minus) none 2 1 1 ∷
-    entry (ONE Negate) none 1 1 1 ∷
-    entry (ONE Increment) none 1 1 1 ∷
-    entry (ONE Decrement) none 1 1 1 ∷
-    entry (ONE Halve) none 1 1 1 ∷
-    entry (TWO AddExtended) none 2 1 1 ∷
-    entry (TWO SubtractExtended) none 2 1 1 ∷
-    -- 16 to 20
-    entry (TWO Equal) none 2 1 1 ∷
-    entry (TWO Unequal) none 2 1 1 ∷
-    entry (TWO Less) none 2 1 1 ∷
-    entry (TWO Greater) none 2 1 1 ∷
-    entry (TWO Below) none 2 1 1 ∷
-    entry (TWO Above) none 2 1 1 ∷
-    entry (ONE ZeroEqual) none 1 1 1 ∷
-    entry (ONE ZeroUnequal) none 1 1 1 ∷
-    entry (ONE ZeroLess) none 1 1 1 ∷
-    entry (ONE ZeroGreater) none 1 1 1 ∷
-    entry (SHUFFLE ZERO) none 0 1 1 ∷
-    -- 21 to 28
-    entry (TWO AndBits) none 2 1 1 ∷
-    entry (TWO OrBits) none 2 1 1 ∷
-    entry (ONE Invert) none 1 1 1 ∷
-    entry (TWO XorBits) none 2 1 1 ∷
-    entry (ONE ShiftLeft) none 1 1 1 ∷
-    entry (ONE ShiftRight) none 1 1 1 ∷
-    entry (ONE ExtendByte) none 1 1 1 ∷
-    entry (ONE ExtendWord) none 1 1 1 ∷
-    -- 29 to 2C
-    entry (TWO MultiplySigned) none 2 2 5 ∷
-    entry (TWO MultiplyUnsigned) none 2 2 5 ∷
-    entry (TWO DivideSigned) none 2 2 42 ∷
-    entry (TWO DivideUnsigned) none 2 2 41 ∷
-    -- 2D to 33
-    entry (FETCH Long) none 1 1 2 ∷
-    entry (STORE Long) none 2 0 2 ∷
-    entry (FETCH Word) none 1 1 2 ∷
-    entry (STORE Word) none 2 0 2 ∷
-    entry (FETCH Byte) none 1 1 2 ∷
-    entry (STORE Byte) none 2 0 2 ∷
-    entry (SHUFFLE DUP-NONZERO) none 1 2 2 ∷
-    -- 34 to 39
-    entry LITERAL (number 1) 0 1 2 ∷
-    entry LITERAL (number 2) 0 1 2 ∷
-    entry LITERAL (number 4) 0 1 2 ∷
-    entry (JUMP JMP) none 1 0 2 ∷
-    entry (LINK JSL) (number 3) 0 0 2 ∷
-    entry (LINK JSR) none 1 0 2 ∷
-    -- 3A to 3D
-    unknown ∷
-    unknown ∷
-    unknown ∷
-    entry (LINK EXIT) none 0 0 2 ∷ []
+    -- instruction, operand, cells taken, cells put, cycles; behind them code and name
+    entry (SHUFFLE NOP) none 0 0 1 ∷  -- 00 NOP
+    entry (SHUFFLE DROP) none 1 0 1 ∷  -- 01 DROP
+    entry (SHUFFLE DUP) none 1 2 1 ∷  -- 02 DUP
+    entry (SHUFFLE SWAP) none 2 2 1 ∷  -- 03 SWAP
+    entry (SHUFFLE OVER) none 2 3 1 ∷  -- 04 OVER
+    entry (SHUFFLE NIP) none 2 1 1 ∷  -- 05 NIP
+    entry (SHUFFLE ROT) none 3 3 1 ∷  -- 06 ROT
+    entry (LINK >R) none 1 0 1 ∷  -- 07 >R
+    entry (LINK R-AT) none 0 1 1 ∷  -- 08 R@
+    entry (LINK R>) none 0 1 1 ∷  -- 09 R>
+    entry (SHUFFLE PSP-AT) none 0 1 1 ∷  -- 0A PSP@
+    entry (LINK CATCH) none 1 0 2 ∷  -- 0B CATCH
+    entry (LINK RESETSP) none 0 0 1 ∷  -- 0C RESETSP
+    entry (LINK THROW) none 1 1 3 ∷  -- 0D THROW
+    entry (TWO Plus) none 2 1 1 ∷  -- 0E +
+    entry (TWO Minus) none 2 1 1 ∷  -- 0F -
+    entry (ONE Negate) none 1 1 1 ∷  -- 10 NEGATE
+    entry (ONE Increment) none 1 1 1 ∷  -- 11 1+
+    entry (ONE Decrement) none 1 1 1 ∷  -- 12 1-
+    entry (ONE Halve) none 1 1 1 ∷  -- 13 2/
+    entry (TWO AddExtended) none 2 1 1 ∷  -- 14 ADDX
+    entry (TWO SubtractExtended) none 2 1 1 ∷  -- 15 SUBX
+    entry (TWO Equal) none 2 1 1 ∷  -- 16 =
+    entry (TWO Unequal) none 2 1 1 ∷  -- 17 <>
+    entry (TWO Less) none 2 1 1 ∷  -- 18 <
+    entry (TWO Greater) none 2 1 1 ∷  -- 19 >
+    entry (TWO Below) none 2 1 1 ∷  -- 1A U<
+    entry (TWO Above) none 2 1 1 ∷  -- 1B U>
+    entry (ONE ZeroEqual) none 1 1 1 ∷  -- 1C 0=
+    entry (ONE ZeroUnequal) none 1 1 1 ∷  -- 1D 0<>
+    entry (ONE ZeroLess) none 1 1 1 ∷  -- 1E 0<
+    entry (ONE ZeroGreater) none 1 1 1 ∷  -- 1F 0>
+    entry (SHUFFLE ZERO) none 0 1 1 ∷  -- 20 ZERO
+    entry (TWO AndBits) none 2 1 1 ∷  -- 21 AND
+    entry (TWO OrBits) none 2 1 1 ∷  -- 22 OR
+    entry (ONE Invert) none 1 1 1 ∷  -- 23 INVERT
+    entry (TWO XorBits) none 2 1 1 ∷  -- 24 XOR
+    entry (ONE ShiftLeft) none 1 1 1 ∷  -- 25 LSL
+    entry (ONE ShiftRight) none 1 1 1 ∷  -- 26 LSR
+    entry (ONE ExtendByte) none 1 1 1 ∷  -- 27 XBYTE
+    entry (ONE ExtendWord) none 1 1 1 ∷  -- 28 XWORD
+    entry (TWO MultiplySigned) none 2 2 5 ∷  -- 29 MULTS
+    entry (TWO MultiplyUnsigned) none 2 2 5 ∷  -- 2A MULTU
+    entry (TWO DivideSigned) none 2 2 42 ∷  -- 2B DIVS
+    entry (TWO DivideUnsigned) none 2 2 41 ∷  -- 2C DIVU
+    entry (FETCH Long) none 1 1 2 ∷  -- 2D FETCH.L
+    entry (STORE Long) none 2 0 2 ∷  -- 2E STORE.L
+    entry (FETCH Word) none 1 1 2 ∷  -- 2F FETCH.W
+    entry (STORE Word) none 2 0 2 ∷  -- 30 STORE.W
+    entry (FETCH Byte) none 1 1 2 ∷  -- 31 FETCH.B
+    entry (STORE Byte) none 2 0 2 ∷  -- 32 STORE.B
+    entry (SHUFFLE DUP-NONZERO) none 1 2 2 ∷  -- 33 ?DUP
+    entry LITERAL (number 1) 0 1 2 ∷  -- 34 #.B
+    entry LITERAL (number 2) 0 1 2 ∷  -- 35 #.W
+    entry LITERAL (number 4) 0 1 2 ∷  -- 36 #.L
+    entry (JUMP JMP) none 1 0 2 ∷  -- 37 JMP
+    entry (LINK JSL) (number 3) 0 0 2 ∷  -- 38 JSL
+    entry (LINK JSR) none 1 0 2 ∷  -- 39 JSR
+    unknown ∷  -- 3A unknown
+    unknown ∷  -- 3B unknown
+    unknown ∷  -- 3C unknown
+    entry (LINK EXIT) none 0 0 2 ∷ []  -- 3D EXIT
 
 -- the branches
 abbrev pub entryBEQ : Entry

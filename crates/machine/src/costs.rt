@@ -1,65 +1,65 @@
 // Clock cycles by code, 00 to 3D, one to a line; unknown codes have 1. THROW's entry is that of non-zero.
 pub const CYCLES: [u32; 62] = [
-    1,
-    1,
-    1,
-    1,
-    1,
-    1,
-    1,
-    1,
-    1,
-    1,
-    1,
-    2,
-    1,
-    3,
-    1,
-    1,
-    1,
-    1,
-    1,
-    1,
-    1,
-    1,
-    1,
-    1,
-    1,
-    1,
-    1,
-    1,
-    1,
-    1,
-    1,
-    1,
-    1,
-    1,
-    1,
-    1,
-    1,
-    1,
-    1,
-    1,
-    1,
-    5,
-    5,
-    42,
-    41,
-    2,
-    2,
-    2,
-    2,
-    2,
-    2,
-    2,
-    2,
-    2,
-    2,
-    2,
-    2,
-    2,
-    1,
-    1,
-    1,
-    2,
+    1, // 00 NOP
+    1, // 01 DROP
+    1, // 02 DUP
+    1, // 03 SWAP
+    1, // 04 OVER
+    1, // 05 NIP
+    1, // 06 ROT
+    1, // 07 >R
+    1, // 08 R@
+    1, // 09 R>
+    1, // 0A PSP@
+    2, // 0B CATCH
+    1, // 0C RESETSP
+    3, // 0D THROW
+    1, // 0E +
+    1, // 0F -
+    1, // 10 NEGATE
+    1, // 11 1+
+    1, // 12 1-
+    1, // 13 2/
+    1, // 14 ADDX
+    1, // 15 SUBX
+    1, // 16 =
+    1, // 17 <>
+    1, // 18 <
+    1, // 19 >
+    1, // 1A U<
+    1, // 1B U>
+    1, // 1C 0=
+    1, // 1D 0<>
+    1, // 1E 0<
+    1, // 1F 0>
+    1, // 20 ZERO
+    1, // 21 AND
+    1, // 22 OR
+    1, // 23 INVERT
+    1, // 24 XOR
+    1, // 25 LSL
+    1, // 26 LSR
+    1, // 27 XBYTE
+    1, // 28 XWORD
+    5, // 29 MULTS
+    5, // 2A MULTU
+    42, // 2B DIVS
+    41, // 2C DIVU
+    2, // 2D FETCH.L
+    2, // 2E STORE.L
+    2, // 2F FETCH.W
+    2, // 30 STORE.W
+    2, // 31 FETCH.B
+    2, // 32 STORE.B
+    2, // 33 ?DUP
+    2, // 34 #.B
+    2, // 35 #.W
+    2, // 36 #.L
+    2, // 37 JMP
+    2, // 38 JSL
+    2, // 39 JSR
+    1, // 3A unknown
+    1, // 3B unknown
+    1, // 3C unknown
+    2, // 3D EXIT
 ];

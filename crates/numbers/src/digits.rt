@@ -8,7 +8,7 @@ ghost use lib.Seq.{sets};
 ghost use Rattle.numbers.specs.Digits.{digit, decimal, hexadecimal};
 ghost use Rattle.numbers.specs.Slices.{saysPut, putAt};
 
-// The longest decimal number that 64 bits hold.
+// How many decimal digits a number of 64 bits has at the most.
 pub const MOST_DECIMAL: usize = 20;
 
 // 0 to 9, then A to F.

@@ -1,6 +1,6 @@
 // The instruction at the program counter: its first byte first, then the bytes that its code asks for.
 use crate::Fetched;
-use crate::bytes;
+use crate::memory;
 use machine::Machine;
 ghost use mathlib.Core.Path.{_≡_};
 ghost use Prim.Native.Nat.{_+_, _<_, _≤_};
@@ -21,7 +21,7 @@ fn literal_byte(mem: &[u8], counter: u32) -> Fetched
     }
     Fetched::Instruction(
         0x34,
-        bytes::literal_byte(mem, at + 1),
+        memory::literal_byte(mem, at + 1),
         std::num::wrapping_add_u32(counter, 2),
     )
 }
@@ -36,7 +36,7 @@ fn literal_word(mem: &[u8], counter: u32) -> Fetched
     }
     Fetched::Instruction(
         0x35,
-        bytes::literal_word(mem, at + 1),
+        memory::literal_word(mem, at + 1),
         std::num::wrapping_add_u32(counter, 3),
     )
 }
@@ -51,7 +51,7 @@ fn literal_long(mem: &[u8], counter: u32) -> Fetched
     }
     Fetched::Instruction(
         0x36,
-        bytes::literal_long(mem, at + 1),
+        memory::literal_long(mem, at + 1),
         std::num::wrapping_add_u32(counter, 5),
     )
 }
@@ -67,7 +67,7 @@ fn subroutine(mem: &[u8], counter: u32) -> Fetched
     }
     Fetched::Instruction(
         0x38,
-        bytes::read_triple(mem, at + 1),
+        memory::read_triple(mem, at + 1),
         std::num::wrapping_add_u32(counter, 4),
     )
 }
@@ -82,7 +82,7 @@ fn branch(mem: &[u8], counter: u32, code: u8) -> Fetched
         return Fetched::Refused(3);
     }
     let next = std::num::wrapping_add_u32(counter, 2);
-    let offset = bytes::branch_offset(code, mem[at + 1]);
+    let offset = memory::branch_offset(code, mem[at + 1]);
     Fetched::Instruction(code, std::num::wrapping_add_u32(next, offset), next)
 }
 

@@ -1,7 +1,6 @@
 // The run: instructions carried out one after another under a budget, proved to be what the machine's definition says.
 
 mod access;
-mod bytes;
 mod cells;
 mod checks;
 mod dispatch;
@@ -9,6 +8,7 @@ mod fetch;
 mod formed;
 mod jumps;
 mod leave;
+mod memory;
 mod place;
 mod price;
 mod round;

@@ -9,11 +9,11 @@ use crate::Spot;
 use crate::Throw;
 use crate::Thrown;
 use crate::access;
-use crate::bytes;
 use crate::checks;
 use crate::dispatch;
 use crate::fetch;
 use crate::leave;
+use crate::memory;
 use crate::price;
 use crate::tally;
 use links::Frame;
@@ -246,7 +246,7 @@ pub(crate) fn rounds(mem: &mut [u8], start: Machine, budget: u32) -> Ran
                 };
                 match spot {
                     Spot::Memory(at) => {
-                        cells[p - 1] = bytes::read_number(mem, at, width);
+                        cells[p - 1] = memory::read_number(mem, at, width);
                         regs.counter = next;
                         regs = tally::counted(regs, price::price(&costs, code));
                     }
@@ -276,7 +276,7 @@ pub(crate) fn rounds(mem: &mut [u8], start: Machine, budget: u32) -> Ran
                 };
                 match spot {
                     Spot::Memory(at) => {
-                        bytes::write_number(mem, at, width, cells[p - 2]);
+                        memory::write_number(mem, at, width, cells[p - 2]);
                         regs.p = p - 2;
                         regs.counter = next;
                         regs = tally::counted(regs, price::price(&costs, code));

@@ -1,5 +1,5 @@
 // Arithmetic on one 32-bit cell, or two: codes 0E to 2C without ZERO, as pure functions on numbers.
-// In every function x is the deeper cell, y the top, and flag the extend flag, which may be any number.
+// Of one cell x is that cell; of two x is the deeper one and y the top. The extend flag may be any number.
 mod bits;
 mod compare;
 mod dispatch;

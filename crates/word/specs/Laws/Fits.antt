@@ -9,7 +9,7 @@ use lib.IntN.{pos}
 use lib.Signed.{ltZ}
 use Rattle.word.specs.Laws.Bounds.{product-below, truth-below, sign-below}
 use Rattle.word.specs.Integers.{signed}
-use Rattle.word.specs.Products.{wide, wordsOf}
+use Rattle.word.specs.Products.{wide, cellsOf}
 use Rattle.word.specs.Quotients.{unlessZero, isNegative, magnitudeOf, apart}
 use Rattle.word.specs.Dispatch.{oneCellOf, twoCellsOf}
 use Rattle.word.specs.declared.Outcome.{Outcome}
@@ -56,7 +56,7 @@ signed-fits x y flag hx =
     unless-fits (eqb y 0) _
     (sign-below (isNegative x) (lt-of-le-of-lt (mod-le m n) (magnitude-below x hx)), sign-below (apart (isNegative x) (isNegative y)) (lt-of-le-of-lt (div-le-self m n) (magnitude-below x hx)))
 
-words-fit : (product flag : ℕ) → CellsFit (wordsOf (product % 2 ^ 64) flag)
+words-fit : (product flag : ℕ) → CellsFit (cellsOf (product % 2 ^ 64) flag)
 words-fit product flag = (omega arith, omega arith)
 
 pub two-fit : (op : TwoCells) (x y flag : ℕ) → x < 2 ^ 32 → y < 2 ^ 32 → CellsFit (twoCellsOf op x y flag)

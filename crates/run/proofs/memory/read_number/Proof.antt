@@ -1,11 +1,11 @@
--- Made by .ci/named from read_number.rules: 6badf3925aa7094c a3e2be2d6c3adf3e
+-- Made by .ci/named from read_number.rules: 6badf3925aa7094c 9a1d22e4898eb168
 -- By its width.
 use mathlib.Core.Path.{ap}
 use native.Mathlib.Omega.{arith}
 use Rattle.machine.specs.Memory.{size}
 use borrow.Author.Needs.{needs}
-use Rattle.run.proofs.bytes.read_number.Statement.{statement}
-use Rattle.run.proofs.bytes.read_number.Tie as tie
+use Rattle.run.proofs.memory.read_number.Statement.{statement}
+use Rattle.run.proofs.memory.read_number.Tie as tie
 
 enum-told : tie.Need-enum-told
 enum-told c = search needs

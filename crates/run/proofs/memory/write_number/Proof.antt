@@ -1,12 +1,12 @@
--- Made by .ci/named from write_number.rules: ba4a1da959e47827 a5eb3b60396ae44c
+-- Made by .ci/named from write_number.rules: ba4a1da959e47827 b0aeb51dcc4bd9ba
 -- What is written lies inside, so the bytes of the number stand there.
 use mathlib.Core.Path.{ap}
 use native.Mathlib.Omega.{arith}
 use Rattle.machine.specs.Memory.{size}
 use Rattle.run.proofs.Written.{written}
 use borrow.Author.Needs.{needs}
-use Rattle.run.proofs.bytes.write_number.Statement.{statement}
-use Rattle.run.proofs.bytes.write_number.Tie as tie
+use Rattle.run.proofs.memory.write_number.Statement.{statement}
+use Rattle.run.proofs.memory.write_number.Tie as tie
 
 enum-told : tie.Need-enum-told
 enum-told c = search needs
