@@ -1,6 +1,9 @@
 // A run for hosts in other languages that hold a whole machine as bytes. It stands apart from the bench job, so that each of the
-// two exported functions has the run compiled into it.
+// two functions that run a machine has the run compiled into it.
+mod reading;
+
 use machine::Machine;
+pub use reading::glidecotton_read_image;
 ghost use mathlib.Core.Path.{_≡_};
 ghost use Rattle.host.specs.Handed.{Hands};
 ghost use Rattle.host.specs.Laws.Budget.{narrowedTo};
