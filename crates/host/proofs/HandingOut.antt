@@ -1,7 +1,7 @@
 -- The promise to a host that hands an image in, from what the parts ensure.
 use mathlib.Core.List.{List, _++_}
 use mathlib.Core.Path.{_≡_, sym, ap, subst, _∙_}
-use Prim.Native.Nat.{ℕ}
+use Prim.Native.Nat.{ℕ, _^_, _≤_, _<_}
 use native.Mathlib.Omega.{arith}
 use lib.ListN.{length, drop}
 use lib.Seq.{sets-eq, drop-length}
@@ -10,6 +10,7 @@ use Rattle.numbers.specs.Bytes.{bytesOf}
 use Rattle.numbers.specs.Slices.{Wrote, writeAt}
 use Rattle.numbers.specs.Laws.Bytes.{length-bytes}
 use Rattle.numbers.specs.Laws.Slices.{write-inside}
+use Rattle.machine.specs.Limits.{mostBudget}
 use Rattle.image.specs.Loading.{saysVerdict, handed, Read, wrong-memory, not-spelled, read, refusedWith, loadedFrom}
 use Rattle.image.specs.Loading as loading
 use Rattle.image.specs.declared.Loaded.{Loaded}
@@ -32,6 +33,12 @@ refused-untouched file before after h number (not-spelled long none) e =
     let same : 14 ≡ number = cc in
     (subst (λ (n : ℕ). Read file before before (refusedWith n)) same (not-spelled long none), λ i. before)
 refused-untouched file before after h number (read i long allowed spells) e = absurd (let z : _≡_ {A = ℕ} 0 1 = cc in omega arith)
+
+budget-low : (file before after : List ℕ) (h : loading.Handed) → Read file before after h → h .budget ≤ mostBudget
+unfolding refusedWith loadedFrom
+budget-low file before after h (wrong-memory other) = omega arith
+budget-low file before after h (not-spelled long none) = omega arith
+budget-low file before after h (read i long allowed spells) = allowed .budget-low
 
 -- the budget fills the result
 budget-written : (budget : ℕ) (before : List ℕ) (w : Wrote) → length before ≡ beside .width → w ≡ writeAt 8 budget before 0
@@ -70,6 +77,8 @@ module _ (image memory state result : List ℕ) where
         → Reads image memory state result (record { number = 0; state = given; memory = mid; result = w .bytes })
     handed-out a given w e (wrong-size h) wrote = absurd (h all)
     handed-out a given w e (filled also fits) wrote =
+        let low : loaded .budget ≤ mostBudget = budget-low image memory mid (handed loaded) is-read in
+        let small : loaded .budget < 2 ^ 64 = omega arith in
         subst (λ (r : List ℕ). Reads image memory state result (record { number = 0; state = given; memory = mid; result = r }))
         (sym (budget-written (loaded .budget) result w long wrote))
-        (reads.read (record { memory = mid; handed = handed loaded }) all long is-read (ap saysVerdict e) fits)
+        (reads.read (record { memory = mid; handed = handed loaded }) all long is-read (ap saysVerdict e) fits (small, tt))

@@ -32,7 +32,7 @@ handedOut reading =
     }
 
 -- `Reads image memory state result handed`: another length of the state or the result is 2, then what the reader refuses has its
--- number, and both touch nothing; else the state is the machine that was read, and the bytes can carry it
+-- number, and both touch nothing; else the state is the machine that was read and the result its budget, and the bytes can carry both
 pub data Reads (image memory state result : List ℕ) : Handed → Type 0 where
   wrong-length : ((length state ≡ layout.state .width) × (length result ≡ beside .width) → ⊥)
       → Reads image memory state result (record { number = 2; state = state; memory = memory; result = result })
@@ -40,5 +40,6 @@ pub data Reads (image memory state result : List ℕ) : Handed → Type 0 where
       → Read image memory memory (refusedWith number)
       → Reads image memory state result (record { number = number; state = state; memory = memory; result = result })
   read : (reading : Reading) → length state ≡ layout.state .width → length result ≡ beside .width
-      → Read image memory (reading .memory) (reading .handed) → reading .handed .says ≡ gives tt → layout.state .Fits (reading .handed .machine)
+      → Read image memory (reading .memory) (reading .handed) → reading .handed .says ≡ gives tt
+      → layout.state .Fits (reading .handed .machine) → beside .Fits (record { budget = reading .handed .budget })
       → Reads image memory state result (handedOut reading)

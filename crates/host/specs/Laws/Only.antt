@@ -42,14 +42,14 @@ module _ (image memory state result : List ℕ) where
   unfolding refusedWith
   only-reads a b (reads.wrong-length h) (reads.wrong-length k) = refl
   only-reads a b (reads.wrong-length h) (refused n all long is) = absurd (h (all, long))
-  only-reads a b (reads.wrong-length h) (read r all long is good fits) = absurd (h (all, long))
+  only-reads a b (reads.wrong-length h) (read r all long is good fits small) = absurd (h (all, long))
   only-reads a b (refused n all long is) (reads.wrong-length k) = absurd (k (all, long))
   only-reads a b (refused n all long is) (refused l also too same) =
       let says : _≡_ {A = Answer (Unit {0})} (refuses n) (refuses l) = one-saying image memory (refusal n) (refusal l) is same in
       let number : n ≡ l = cc in
       ap (λ (x : ℕ). record { number = x; state = state; memory = memory; result = result }) number
-  only-reads a b (refused n all long is) (read r also too same good fits) = absurd (not-both n r is same good)
-  only-reads a b (read r all long is good fits) (reads.wrong-length k) = absurd (k (all, long))
-  only-reads a b (read r all long is good fits) (refused n also too same) = absurd (not-both n r same is good)
-  only-reads a b (read r all long is good fits) (read s also too same fine fit) =
+  only-reads a b (refused n all long is) (read r also too same good fits small) = absurd (not-both n r is same good)
+  only-reads a b (read r all long is good fits small) (reads.wrong-length k) = absurd (k (all, long))
+  only-reads a b (read r all long is good fits small) (refused n also too same) = absurd (not-both n r same is good)
+  only-reads a b (read r all long is good fits small) (read s also too same fine fit tiny) =
       ap handedOut (only-reading image memory (r .memory) (s .memory) (r .handed) (s .handed) is same)

@@ -36,8 +36,8 @@ module _ (image memory state result : List ℕ) (budget : ℕ) (counts : List �
   read-then-run a b (reads.wrong-length h) zero long hands = absurd (omega arith)
   read-then-run a b (refused number all too is) zero long hands =
       absurd (refusal-not-zero image memory memory (refusedWith number) number is (λ i. refuses number) zero)
-  read-then-run a b (read r all too is good fits) zero long (wrong-length h) = absurd (h (state-sound .long (r .handed .machine) fits, long))
-  read-then-run a b (read r all too is good fits) zero long (run m also same fit spells left) =
+  read-then-run a b (read r all too is good fits small) zero long (wrong-length h) = absurd (h (state-sound .long (r .handed .machine) fits, long))
+  read-then-run a b (read r all too is good fits small) zero long (run m also same fit spells left) =
       record {
         reading = r;
         is-read = is;
