@@ -1,4 +1,8 @@
-/* The proved machine for hosts: what libglidecotton.a and libhost.a export (rt staticlib glidecotton, rt staticlib host).
+/* The proved machine for hosts: what three libraries export, one function each. rt staticlib NAME makes libNAME.a in
+   target/staticlib/ for x86-64, and hosts/c/build makes all three in this machine's code.
+      libglidecotton.a  glidecotton_bench
+      libreader.a       glidecotton_read_image
+      libhost.a         glidecotton_run_state
 
    Every function takes every buffer of every length and keeps no pointer. A caller hands each buffer with its own length, and no
    two that overlap. Numbers in buffers are big endian. The libraries need memcpy and memset, and nothing else. */

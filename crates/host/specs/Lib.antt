@@ -1,6 +1,4 @@
 -- a machine handed in, run and handed back
 pub mod Handed
--- an image handed in, and the machine that it spells handed out
-pub mod Reads
 -- nothing below has to be believed
 pub mod Laws

@@ -1,9 +1,6 @@
 // A run for hosts in other languages that hold a whole machine as bytes. It stands apart from the bench job, so that each of the
-// two functions that run a machine has the run compiled into it.
-mod reading;
-
+// two exported functions has the run compiled into it.
 use machine::Machine;
-pub use reading::glidecotton_read_image;
 ghost use mathlib.Core.Path.{_≡_};
 ghost use Rattle.host.specs.Handed.{Hands};
 ghost use Rattle.host.specs.Laws.Budget.{narrowedTo};

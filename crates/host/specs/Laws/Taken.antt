@@ -12,8 +12,8 @@ use Rattle.image.specs.Loading as loading
 use Rattle.state.specs.Layout as layout
 use Rattle.state.specs.Laws.Spelling.{state-sound}
 use Rattle.host.specs.Handed.{Handed, Hands, wrong-length, run, handedBack}
-use Rattle.host.specs.Reads.{Reads, refused, read}
-use Rattle.host.specs.Reads as reads
+use Rattle.reader.specs.Reads.{Left, Reads, refused, read}
+use Rattle.reader.specs.Reads as reads
 
 -- no refusal of the reader is taken for a good image
 refusal-not-zero : (file before after : List ℕ) (h : loading.Handed) (number : ℕ) → Read file before after h → h .says ≡ refuses number → number ≡ 0 → ⊥
@@ -30,7 +30,7 @@ pub record RunsRead (image memory : List ℕ) (budget : ℕ) (ran : Handed) : Ty
   pub runs : ran ≡ handedBack (runOf (reading .memory) (reading .handed .machine) budget)
 
 module _ (image memory state result : List ℕ) (budget : ℕ) (counts : List ℕ) where
-  pub read-then-run : (a b : Handed) → Reads image memory state result a → a .number ≡ 0 → length counts ≡ layout.result .width
+  pub read-then-run : (a : Left) (b : Handed) → Reads image memory state result a → a .number ≡ 0 → length counts ≡ layout.result .width
       → Hands (a .state) (a .memory) budget counts b → RunsRead image memory budget b
   unfolding refusedWith
   read-then-run a b (reads.wrong-length h) zero long hands = absurd (omega arith)

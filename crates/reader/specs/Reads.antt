@@ -7,7 +7,6 @@ use Rattle.plain.specs.Answer.{gives}
 use Rattle.image.specs.Loading.{Reading, Read, refusedWith}
 use Rattle.state.specs.Parts.{Part, Field, _of_, fields}
 use Rattle.state.specs.Layout as layout
-use Rattle.host.specs.Handed.{Handed}
 
 -- what an image spells beside memory and machine
 pub record Beside : Type 0 where
@@ -20,8 +19,15 @@ besideFields = layout.pointer of (λ b. b .budget) ∷ []
 abbrev pub beside : Part Beside
 beside = fields besideFields
 
+-- the number, and the three lent buffers afterwards
+pub record Left : Type 0 where
+  pub number : ℕ
+  pub state : List ℕ
+  pub memory : List ℕ
+  pub result : List ℕ
+
 -- what a good image leaves, for the host
-abbrev pub handedOut : Reading → Handed
+abbrev pub handedOut : Reading → Left
 handedOut reading =
     let read = reading .handed in
     record {
@@ -31,9 +37,9 @@ handedOut reading =
       result = beside .bytes (record { budget = read .budget });
     }
 
--- `Reads image memory state result handed`: another length of the state or the result is 2, then what the reader refuses has its
+-- `Reads image memory state result left`: another length of the state or the result is 2, then what the reader refuses has its
 -- number, and both touch nothing; else the state is the machine that was read and the result its budget, and the bytes can carry both
-pub data Reads (image memory state result : List ℕ) : Handed → Type 0 where
+pub data Reads (image memory state result : List ℕ) : Left → Type 0 where
   wrong-length : ((length state ≡ layout.state .width) × (length result ≡ beside .width) → ⊥)
       → Reads image memory state result (record { number = 2; state = state; memory = memory; result = result })
   refused : (number : ℕ) → length state ≡ layout.state .width → length result ≡ beside .width

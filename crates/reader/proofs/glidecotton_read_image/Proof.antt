@@ -1,8 +1,8 @@
 -- Each way out hands what the called functions ensure to its law.
-use Rattle.host.proofs.HandingOut.{other-state, other-result, not-read, handed-out}
+use Rattle.reader.proofs.HandingOut.{other-state, other-result, not-read, handed-out}
 use borrow.Author.Needs.{needs}
-use Rattle.host.proofs.reading.glidecotton_read_image.Statement.{statement}
-use Rattle.host.proofs.reading.glidecotton_read_image.Tie as tie
+use Rattle.reader.proofs.glidecotton_read_image.Statement.{statement}
+use Rattle.reader.proofs.glidecotton_read_image.Tie as tie
 
 returns : tie.Need-returns
 returns c =

@@ -1,5 +1,6 @@
-// The reader for hosts in other languages: an image in, a machine and a budget out, as bytes.
-ghost use Rattle.host.specs.Reads.{Reads};
+// The reader for hosts in other languages: an image in, a machine and a budget out, as bytes. It stands apart from the run of such
+// a machine, so that each of the two exported functions has all that it calls compiled into it.
+ghost use Rattle.reader.specs.Reads.{Reads};
 
 // What stands in the result: the budget, in 8 bytes.
 const RESULT_BUDGET: usize = 0;

@@ -18,9 +18,8 @@ use Rattle.image.specs.declared.Verdict.the-variants.{Good, Refused}
 use Rattle.state.specs.Parts.{fieldBytes}
 use Rattle.state.specs.Layout as layout
 use Rattle.state.specs.Promise.{Gives, wrong-size, filled}
-use Rattle.host.specs.Handed.{Handed}
-use Rattle.host.specs.Reads.{Reads, beside}
-use Rattle.host.specs.Reads as reads
+use Rattle.reader.specs.Reads.{Left, Reads, beside}
+use Rattle.reader.specs.Reads as reads
 
 -- what the reader refuses it returns fresh, and leaves the memory as it was
 refused-untouched : (file before after : List ℕ) (h : loading.Handed) (number : ℕ) → Read file before after h → h .says ≡ refuses number
@@ -53,7 +52,7 @@ budget-written budget before w long e =
     ∙ ap (λ (rest : List ℕ). bytes ++ rest) (ap (λ (k : ℕ). drop k before) all ∙ drop-length before)
 
 module _ (image memory state result : List ℕ) where
-  abbrev untouched : ℕ → Handed
+  abbrev untouched : ℕ → Left
   untouched number = record { number = number; state = state; memory = memory; result = result }
 
   pub other-state : (length state ≡ layout.state .width → ⊥) → Reads image memory state result (untouched 2)
