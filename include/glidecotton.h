@@ -1,4 +1,8 @@
-/* The proved machine for hosts: what libglidecotton.a and libhost.a export (rt staticlib glidecotton, rt staticlib host).
+/* The proved machine for hosts: what three libraries export, one function each. rt staticlib NAME makes libNAME.a in
+   target/staticlib/ for x86-64, and hosts/c/build makes all three in this machine's code.
+      libglidecotton.a  glidecotton_bench
+      libreader.a       glidecotton_read_image
+      libhost.a         glidecotton_run_state
 
    Every function takes every buffer of every length and keeps no pointer. A caller hands each buffer with its own length, and no
    two that overlap. Numbers in buffers are big endian. The libraries need memcpy and memset, and nothing else. */
@@ -12,10 +16,11 @@
 enum {
     GLIDECOTTON_MEMORY = 32768,        /* bytes of memory, no more and no fewer */
     GLIDECOTTON_LONGEST_IMAGE = 33040, /* bytes of the longest good image file */
-    GLIDECOTTON_TEXT = 1024,           /* bytes that hold the text of every run */
+    GLIDECOTTON_TEXT = 744,            /* bytes that always suffice for a text */
     GLIDECOTTON_BUDGET = 1000000,      /* the greatest budget of steps */
     GLIDECOTTON_STATE = 3528,          /* bytes of a state */
-    GLIDECOTTON_RESULT = 24,           /* bytes of a result */
+    GLIDECOTTON_RESULT = 24,           /* bytes of a run's result */
+    GLIDECOTTON_READ_RESULT = 8,       /* bytes of the reader's result */
     GLIDECOTTON_STACK = 16384          /* bytes of stack that are enough for a call: hosts/c/check measures it */
 };
 
@@ -34,19 +39,31 @@ enum {
     GLIDECOTTON_FLAG = 3524      /* extend flag, 0 or 1 */
 };
 
-/* Where a result has what, 8 bytes each. */
+/* Where a run's result has what, 8 bytes each. */
 enum {
     GLIDECOTTON_ANSWER = 0,      /* the answer of document 01: 0 to 13 */
     GLIDECOTTON_STEPS = 8,       /* instructions that this run completed */
     GLIDECOTTON_CYCLES = 16      /* their clock cycles */
 };
 
+/* Where the reader's result has what, 8 bytes each. */
+enum {
+    GLIDECOTTON_READ_BUDGET = 0  /* the image's budget: 0 to GLIDECOTTON_BUDGET */
+};
+
 /* Reads an image, runs it and writes the bench program's text.
-   memory: GLIDECOTTON_MEMORY bytes. out: GLIDECOTTON_TEXT bytes are always enough.
+   memory: GLIDECOTTON_MEMORY bytes. out: GLIDECOTTON_TEXT bytes always suffice.
    Returns how many bytes of out the text takes; the rest of out is untouched. A text is never 2 bytes long.
    Returns 2 with out untouched where memory has another length, which is then untouched too, or where the text does not fit: then
    the image has been run and memory is as the run left it. A refused image gives the text "14" and leaves memory untouched. */
 uint64_t glidecotton_bench(const uint8_t *image, size_t image_len, uint8_t *memory, size_t memory_len, uint8_t *out, size_t out_len);
+
+/* Reads an image for runs of the host's own: fills memory and state, and writes the image's budget to the result.
+   Returns 0 where the image was read: every byte of the three buffers is then written, whatever they held.
+   Returns 2 where memory_len is not GLIDECOTTON_MEMORY, state_len not GLIDECOTTON_STATE or result_len not GLIDECOTTON_READ_RESULT,
+   and else 14 where the image is not as document 01 says. After 2 and 14 all is untouched. */
+uint64_t glidecotton_read_image(const uint8_t *image, size_t image_len, uint8_t *memory, size_t memory_len, uint8_t *state,
+                                size_t state_len, uint8_t *result, size_t result_len);
 
 /* Runs a machine held as bytes for at most budget steps, and hands it back in the same bytes, ready for the next run.
    Returns 0 with the result written. Answer 2 in it (a memory of another length, a budget above GLIDECOTTON_BUDGET or a state that

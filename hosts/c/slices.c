@@ -8,20 +8,14 @@
 #include <stdlib.h>
 
 #include "glidecotton.h"
-#include "load.h"
+#include "image.h"
 
 struct counted {
     uint64_t answer, steps, cycles;
 };
 
-static uint64_t number(const uint8_t *bytes, int width) {
-    uint64_t value = 0;
-    for (int i = 0; i < width; i++) value = value << 8 | bytes[i];
-    return value;
-}
-
-static uint64_t pointer(const uint8_t *state, size_t at) { return number(state + at, 8); }
-static uint64_t cell(const uint8_t *state, size_t at) { return number(state + at, 4); }
+static uint64_t pointer(const uint8_t *state, size_t at) { return number_at(state + at, 8); }
+static uint64_t cell(const uint8_t *state, size_t at) { return number_at(state + at, 4); }
 
 static void show_line(struct counted all, const uint8_t *state) {
     printf("%" PRIu64 " %" PRIu64 " %" PRIu64 " %" PRIu64 " ", all.answer, all.steps, all.cycles, cell(state, GLIDECOTTON_COUNTER));
@@ -42,7 +36,7 @@ static struct counted run_slice(uint8_t *state, uint8_t *memory, uint64_t steps)
 }
 
 /* Slices until the machine stops by itself or the image's own budget is spent. */
-static void run_all(struct loaded *image, uint64_t slice) {
+static void run_all(struct image *image, uint64_t slice) {
     struct counted all = {0, 0, 0};
     for (;;) {
         uint64_t left = image->budget - all.steps;
@@ -60,16 +54,16 @@ static int fail(const char *what, const char *why) {
 }
 
 int main(int words, char **word) {
-    static struct loaded image;
+    static struct file file;
+    static struct image image;
     char *end;
     if (words != 3) return fail("usage", "slices IMAGE-FILE STEPS");
     uint64_t slice = strtoull(word[2], &end, 10);
     if (*end || slice < 1 || slice > GLIDECOTTON_BUDGET) return fail(word[2], "a slice is 1 to 1000000 steps");
+    if (!read_file(word[1], &file)) return fail(word[1], "can't be read");
 
-    switch (load(word[1], &image)) {
-    case UNREADABLE: return fail(word[1], "can't be read");
-    case REFUSED: puts("14"); break;
-    case GOOD: run_all(&image, slice); break;
-    }
+    uint64_t refusal = read_image(&file, &image);
+    if (refusal != 0) printf("%" PRIu64 "\n", refusal);
+    else run_all(&image, slice);
     return fflush(stdout) == 0 && !ferror(stdout) ? 0 : fail("standard output", "can't be written");
 }

@@ -1,2 +1,6 @@
+-- a budget that 32 bits do not hold
 pub mod Budget
+-- no second answer
 pub mod Only
+-- what was read is what the next run takes
+pub mod Taken

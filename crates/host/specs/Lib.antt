@@ -1,2 +1,4 @@
+-- a machine handed in, run and handed back
 pub mod Handed
+-- nothing below has to be believed
 pub mod Laws

@@ -1,0 +1,88 @@
+-- Each way out hands what the called functions ensure to its law.
+use Rattle.reader.proofs.HandingOut.{other-state, other-result, not-read, handed-out}
+use borrow.Author.Needs.{needs}
+use Rattle.reader.proofs.glidecotton_read_image.Statement.{statement}
+use Rattle.reader.proofs.glidecotton_read_image.Tie as tie
+
+returns : tie.Need-returns
+returns c =
+    let a = c .before .before .before .before .before .args in
+    other-state (a .image .now) (a .memory .now) (a .state .now) (a .result .now) (c .if1 .taken)
+
+returns-2 : tie.Need-returns-2
+returns-2 c =
+    let a = c .before .before .before .before .before .before .args in
+    other-result (a .image .now) (a .memory .now) (a .state .now) (a .result .now) (c .if2 .taken)
+
+read-requires : tie.Need-read-requires
+read-requires c κs = search needs
+
+enum-known-verdict : tie.Need-enum-known-verdict
+enum-known-verdict c = search needs
+
+cast-result : tie.Need-cast-result
+cast-result c = search needs
+
+same-length : tie.Need-same-length
+same-length c = search needs
+
+returns-3 : tie.Need-returns-3
+returns-3 c =
+    let told = c .before in
+    let took = told .before .before .before .before in
+    let measured = took .before .before in
+    let a = measured .before .before .before .before .before .before .args in
+    not-read (a .image .now) (a .memory .now) (a .state .now) (a .result .now) _ _ (measured .before .if1 .left) (measured .if2 .left)
+    (took .read .ensures) _ (told .verdict .given .1)
+
+enum-told : tie.Need-enum-told
+enum-told c = search needs
+
+give-requires : tie.Need-give-requires
+give-requires c κs = search needs
+
+cast-write-eight : tie.Need-cast-write-eight
+cast-write-eight c = search needs
+
+write-eight-requires : tie.Need-write-eight-requires
+write-eight-requires c κs = search needs
+
+same-length-2 : tie.Need-same-length-2
+same-length-2 c = search needs
+
+same-length-3 : tie.Need-same-length-3
+same-length-3 c = search needs
+
+same-length-4 : tie.Need-same-length-4
+same-length-4 c = search needs
+
+returns-4 : tie.Need-returns-4
+returns-4 c =
+    let wrote = c .before .before in
+    let gave = wrote .before .before .before .before .before in
+    let told = gave .before .before .before in
+    let took = told .before .before .before .before in
+    let measured = took .before .before in
+    let a = measured .before .before .before .before .before .before .args in
+    handed-out (a .image .now) (a .memory .now) (a .state .now) (a .result .now) _ _ (measured .before .if1 .left) (measured .if2 .left)
+    (took .read .ensures) _ _ _ (told .enum-told .given .1) (gave .give .ensures) (wrote .write-eight .ensures)
+
+pub glidecotton-read-image-spec : {M : Type 1} → statement M
+glidecotton-read-image-spec =
+    tie.close
+    (tie.spec
+    returns
+    returns-2
+    read-requires
+    enum-known-verdict
+    cast-result
+    same-length
+    returns-3
+    enum-told
+    give-requires
+    cast-write-eight
+    write-eight-requires
+    same-length-2
+    same-length-3
+    same-length-4
+    returns-4)

@@ -1,0 +1,51 @@
+-- An image that a host hands in: it is read, and what it spells is handed out as bytes.
+use mathlib.Core.List.{List, [], _∷_}
+use mathlib.Core.Path.{_≡_}
+use Prim.Native.Nat.{ℕ}
+use lib.ListN.{length}
+use Rattle.plain.specs.Answer.{gives}
+use Rattle.image.specs.Loading.{Reading, Read, refusedWith}
+use Rattle.state.specs.Parts.{Part, Field, _of_, fields}
+use Rattle.state.specs.Layout as layout
+
+-- what an image spells beside memory and machine
+pub record Beside : Type 0 where
+  pub budget : ℕ
+
+-- what joins it stands at the end of the list
+abbrev pub besideFields : List (Field Beside)
+besideFields = layout.pointer of (λ b. b .budget) ∷ []
+
+abbrev pub beside : Part Beside
+beside = fields besideFields
+
+-- the number, and the three lent buffers afterwards
+pub record Left : Type 0 where
+  pub number : ℕ
+  pub state : List ℕ
+  pub memory : List ℕ
+  pub result : List ℕ
+
+-- what a good image leaves, for the host
+abbrev pub handedOut : Reading → Left
+handedOut reading =
+    let read = reading .handed in
+    record {
+      number = 0;
+      state = layout.state .bytes (read .machine);
+      memory = reading .memory;
+      result = beside .bytes (record { budget = read .budget });
+    }
+
+-- `Reads image memory state result left`: another length of the state or the result is 2, then what the reader refuses has its
+-- number, and both touch nothing; else the state is the machine that was read and the result its budget, and the bytes can carry both
+pub data Reads (image memory state result : List ℕ) : Left → Type 0 where
+  wrong-length : ((length state ≡ layout.state .width) × (length result ≡ beside .width) → ⊥)
+      → Reads image memory state result (record { number = 2; state = state; memory = memory; result = result })
+  refused : (number : ℕ) → length state ≡ layout.state .width → length result ≡ beside .width
+      → Read image memory memory (refusedWith number)
+      → Reads image memory state result (record { number = number; state = state; memory = memory; result = result })
+  read : (reading : Reading) → length state ≡ layout.state .width → length result ≡ beside .width
+      → Read image memory (reading .memory) (reading .handed) → reading .handed .says ≡ gives tt
+      → layout.state .Fits (reading .handed .machine) → beside .Fits (record { budget = reading .handed .budget })
+      → Reads image memory state result (handedOut reading)
