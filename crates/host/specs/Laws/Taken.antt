@@ -4,14 +4,15 @@ use mathlib.Core.Path.{_≡_, ap}
 use Prim.Native.Nat.{ℕ}
 use native.Mathlib.Omega.{arith}
 use lib.ListN.{length}
-use Rattle.plain.specs.Answer.{refuses, gives}
+use Rattle.plain.specs.Answer.{refuses}
 use Rattle.machine.specs.Run.{runOf}
 use Rattle.machine.specs.declared.Machine.{Machine}
-use Rattle.image.specs.Loading.{Reading, Read, wrong-memory, not-spelled, refusedWith, loadedFrom}
+use Rattle.image.specs.Loading.{Read, wrong-memory, not-spelled, refusedWith, loadedFrom}
 use Rattle.image.specs.Loading as loading
 use Rattle.state.specs.Layout as layout
 use Rattle.state.specs.Laws.Spelling.{state-sound}
 use Rattle.host.specs.Handed.{Handed, Hands, wrong-length, run, handedBack}
+use Rattle.host.specs.Read.{RunsRead}
 use Rattle.reader.specs.Reads.{Left, Reads, refused, read}
 use Rattle.reader.specs.Reads as reads
 
@@ -21,13 +22,6 @@ unfolding refusedWith loadedFrom
 refusal-not-zero file before after h number (wrong-memory other) e zero = let z : _≡_ {A = ℕ} 2 0 = cc in omega arith
 refusal-not-zero file before after h number (not-spelled long none) e zero = let z : _≡_ {A = ℕ} 14 0 = cc in omega arith
 refusal-not-zero file before after h number (loading.read i long allowed spells) e zero = let z : _≡_ {A = ℕ} 0 1 = cc in omega arith
-
--- `RunsRead image memory budget ran`: the image is good, and what is handed back is the run of what it spells
-pub record RunsRead (image memory : List ℕ) (budget : ℕ) (ran : Handed) : Type 0 where
-  pub reading : Reading
-  pub is-read : Read image memory (reading .memory) (reading .handed)
-  pub good : reading .handed .says ≡ gives tt
-  pub runs : ran ≡ handedBack (runOf (reading .memory) (reading .handed .machine) budget)
 
 module _ (image memory state result : List ℕ) (budget : ℕ) (counts : List ℕ) where
   pub read-then-run : (a : Left) (b : Handed) → Reads image memory state result a → a .number ≡ 0 → length counts ≡ layout.result .width

@@ -1,0 +1,15 @@
+-- A run of what an image spells, by way of the bytes that the reader hands out.
+use mathlib.Core.List.{List}
+use mathlib.Core.Path.{_≡_}
+use Prim.Native.Nat.{ℕ}
+use Rattle.plain.specs.Answer.{gives}
+use Rattle.machine.specs.Run.{runOf}
+use Rattle.image.specs.Loading.{Reading, Read}
+use Rattle.host.specs.Handed.{Handed, handedBack}
+
+-- `RunsRead image memory budget ran`: the image is good, and what is handed back is the run of what it spells
+pub record RunsRead (image memory : List ℕ) (budget : ℕ) (ran : Handed) : Type 0 where
+  pub reading : Reading
+  pub is-read : Read image memory (reading .memory) (reading .handed)
+  pub good : reading .handed .says ≡ gives tt
+  pub runs : ran ≡ handedBack (runOf (reading .memory) (reading .handed .machine) budget)
