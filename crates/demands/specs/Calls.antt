@@ -1,13 +1,12 @@
 -- Calls of the exported run on the same state bytes, one after another: what a host does that holds a machine as bytes.
 use mathlib.Core.List.{List}
 use mathlib.Core.Path.{_≡_}
-use Prim.Native.Nat.{ℕ, _+_, _≤_}
-use Rattle.machine.specs.Step.{done, stepOf}
+use Prim.Native.Nat.{ℕ, _+_}
 use Rattle.machine.specs.Run.{runOf}
 use Rattle.machine.specs.declared.Machine.{Machine}
 use Rattle.state.specs.Layout as layout
 use Rattle.host.specs.Handed.{Handed, Hands, wrong-length, run, handedBack}
-use Rattle.demands.specs.History.{World, codeAt, pointerE, Moment, step, History, then, joined, stepsIn, cyclesIn, Above}
+use Rattle.demands.specs.History.{World, History, stepsIn, cyclesIn}
 
 -- the bytes of a state carry a machine
 pub record Carries (state : List ℕ) (m : Machine) : Type 0 where
@@ -44,17 +43,3 @@ pub record OneHistory {state end : List ℕ} (calls : Calls state end) (w : Worl
   pub history : History w last
   pub steps : stepsIn history ≡ stepsOf calls
   pub cycles : cyclesIn history ≡ cyclesOf calls
-
--- a history comes to a CATCH at o that is carried out and leads to w, goes on to v with E above the old E, and then comes to z by
--- the moment that brings E down
-pub record Loses {a b : World} (history : History a b) (o w v z : World) : Type 0 where
-  pub before : History a o
-  pub catches : codeAt o ≡ 0x0B
-  pub cost : ℕ
-  pub carried : stepOf (o .memory) (o .machine) ≡ done (w .memory) (w .machine) cost
-  pub between : History w v
-  pub above : Above (pointerE o) between
-  pub last : Moment v z
-  pub down : pointerE z ≤ pointerE o
-  pub after : History z b
-  pub whole : history ≡ joined before (then (step cost carried) (joined between (then last after)))

@@ -6,6 +6,7 @@ use mathlib.Core.Path.{_≡_, refl, sym, ap, _∙_, subst}
 use Prim.Native.Nat.{ℕ}
 use native.Mathlib.Omega.{arith}
 use lib.ListN.{length}
+use Rattle.machine.specs.State.{wellFormed}
 use Rattle.machine.specs.Fits.{AllBytes, Exist}
 use Rattle.machine.specs.Laws.Carries.{run-carries}
 use Rattle.machine.specs.Run.{After, ended, runFrom, runOf, acceptable}
@@ -15,8 +16,8 @@ use Rattle.state.specs.Laws.Spelling.{state-sound}
 use Rattle.state.specs.Laws.Fits.{machine-carried, machine-exists, machine-whole}
 use Rattle.host.specs.Handed.{Handed, Hands, wrong-length, run, handedBack}
 use Rattle.demands.specs.History.{World, world, left, host, History, here, then, joined, stepsIn, cyclesIn, Resets}
-use Rattle.demands.specs.Back.{Back}
-use Rattle.demands.specs.Calls.{Carries, Handled, Calls, over, call, OneHistory, Loses}
+use Rattle.demands.specs.Back.{Loses, through, Back}
+use Rattle.demands.specs.Calls.{Carries, Handled, Calls, over, call, OneHistory}
 use Rattle.demands.specs.Laws.Course.{course}
 use Rattle.demands.specs.Laws.Joined.{steps-joined, cycles-joined}
 use Rattle.demands.specs.Theorems.Three.{three}
@@ -91,9 +92,7 @@ one-history (call {state = state} memory budget result (run m all long fits is k
 
 -- From bytes that carry a machine that a run accepts, through any number of calls, with any memory from the host between them:
 -- where the history of the calls loses the exception level of a CATCH, that was a RESETSP, or the machine is back.
-pub three-by-calls : {state end : List ℕ} (calls : Calls state end) (a : World) (carries : Carries state (a .machine)) (budget : ℕ)
-    → acceptable (a .memory) (a .machine) budget ≡ true → {o w v z : World} (l : Loses (one-history calls a carries .history) o w v z)
-    → Resets (l .last) ⊎ Back o v z
-three-by-calls calls a carries budget accepted l =
-    three (record { whole = machine-whole (a .machine) (carries .fit); budget = budget; accepted = accepted })
-    (l .before) (l .catches) (l .cost) (l .carried) (l .between) (l .above) (l .last) (l .down)
+pub three-by-calls : {state end : List ℕ} (calls : Calls state end) (a : World) (carries : Carries state (a .machine))
+    → wellFormed (a .machine) ≡ true → {o w v z : World} (l : Loses a o w v z) (after : History z (one-history calls a carries .last))
+    → one-history calls a carries .history ≡ through l after → Resets (l .last) ⊎ Back o v z
+three-by-calls calls a carries formed l after whole = three (record { whole = machine-whole (a .machine) (carries .fit); formed = formed }) l
