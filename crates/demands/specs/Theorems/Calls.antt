@@ -1,12 +1,10 @@
 -- Demand 3 for hosts that hold a machine as bytes: any number of calls on the same bytes is one history.
-use mathlib.Core.Bool.{true}
 use mathlib.Core.List.{List}
 use mathlib.Core.Logic.{_⊎_}
 use mathlib.Core.Path.{_≡_, refl, sym, ap, _∙_, subst}
 use Prim.Native.Nat.{ℕ}
 use native.Mathlib.Omega.{arith}
 use lib.ListN.{length}
-use Rattle.machine.specs.State.{wellFormed}
 use Rattle.machine.specs.Fits.{AllBytes, Exist}
 use Rattle.machine.specs.Laws.Carries.{run-carries}
 use Rattle.machine.specs.Run.{After, runOf}
@@ -20,8 +18,7 @@ use Rattle.demands.specs.Back.{Loses, through, Back}
 use Rattle.demands.specs.Sessions.{Follows, none, next}
 use Rattle.demands.specs.Calls.{Carries, Handled, Calls, over, call, runsOf, OneHistory}
 use Rattle.demands.specs.Laws.Joined.{steps-joined, cycles-joined}
-use Rattle.demands.specs.Theorems.Three.{three}
-use Rattle.demands.specs.Theorems.Sessions.{run-history}
+use Rattle.demands.specs.Theorems.Sessions.{run-history, three-by-runs}
 
 -- no two machines are carried by the same bytes
 one-machine : (state : List ℕ) (m n : Machine) → Carries state m → Carries state n → m ≡ n
@@ -82,10 +79,8 @@ one-history (call {state = state} memory budget result (run m all long fits is k
       cycles = omega (arith, cycles-joined (now .history) (later .history), now .cycles, later .cycles, same-cycles);
     }
 
--- From bytes that carry a well-formed machine, through any number of calls, with any memory from the host between them: where a
--- history of the calls loses what a CATCH pushed, in the same call or in a later one, that was a RESETSP, or the machine is back.
--- It is `three`, which holds of every history: the premises say that this one is that of the calls.
+-- Demand 3 over any number of calls, with any memory from the host between them: where their history loses what a CATCH pushed, in
+-- the same call or in a later one, that was a RESETSP, or the machine is back.
 pub three-by-calls : {state end : List ℕ} (calls : Calls state end) {a o w v z b : World} → Carries state (a .machine)
-    → wellFormed (a .machine) ≡ true → (l : Loses a o w v z) (after : History z b) → Follows a (runsOf calls) (through l after)
-    → Resets (l .last) ⊎ Back o v z
-three-by-calls calls {a} carries formed l after follows = three (record { whole = machine-whole (a .machine) (carries .fit); formed = formed }) l
+    → (l : Loses a o w v z) (after : History z b) → Follows a (runsOf calls) (through l after) → Resets (l .last) ⊎ Back o v z
+three-by-calls calls {a} carries l after follows = three-by-runs (machine-whole (a .machine) (carries .fit)) (runsOf calls) l after follows
