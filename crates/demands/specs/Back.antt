@@ -1,8 +1,26 @@
 -- Demand 3, its words: when a machine is back where it was before a CATCH, and how it came there.
 use mathlib.Core.Path.{_≡_}
+use Prim.Native.Nat.{ℕ, _≤_}
 use Rattle.links.specs.Restored.{Restored}
 use Rattle.machine.specs.Rows.{top, localsInView, cellsInView}
-use Rattle.demands.specs.History.{World, codeAt}
+use Rattle.machine.specs.Step.{done, stepOf}
+use Rattle.demands.specs.History.{World, codeAt, pointerE, Moment, step, History, then, joined, Above, Accepted}
+
+-- from a, through any history, to a CATCH at o that is carried out and leads to w; from there through any history to v with E above
+-- the old E; and then the moment that brings E down, to z
+pub record Loses (a o w v z : World) : Type 0 where
+  pub before : History a o
+  pub catches : codeAt o ≡ 0x0B
+  pub cost : ℕ
+  pub carried : stepOf (o .memory) (o .machine) ≡ done (w .memory) (w .machine) cost
+  pub between : History w v
+  pub above : Above (pointerE o) between
+  pub last : Moment v z
+  pub down : pointerE z ≤ pointerE o
+
+-- all of it as one history, with what comes after
+abbrev pub through : {a o w v z b : World} → Loses a o w v z → History z b → History a b
+through l after = joined (l .before) (then (step (l .cost) (l .carried)) (joined (l .between) (then (l .last) after)))
 
 -- the instruction at the counter of v, which led to z, is EXIT, R> or THROW of non-zero; after a throw P is what it was at o,
 -- before the CATCH, and the code thrown is on top
@@ -21,3 +39,10 @@ pub record Back (o v z : World) : Type 0 where
   pub cells-back : cellsInView (z .machine) ≡ cellsInView (o .machine)
   -- it came by one of the three ways
   pub way : Way o v z
+
+-- that there is such a loss, from a machine that a run accepts, by the instruction with this code, and the machine is back
+pub record Seen (a o w v z : World) (code : ℕ) : Type 0 where
+  pub accepted : Accepted (a .machine)
+  pub loses : Loses a o w v z
+  pub by : codeAt v ≡ code
+  pub back : Back o v z

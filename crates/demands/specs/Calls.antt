@@ -1,13 +1,13 @@
 -- Calls of the exported run on the same state bytes, one after another: what a host does that holds a machine as bytes.
-use mathlib.Core.List.{List}
+use mathlib.Core.List.{List, [], _∷_}
 use mathlib.Core.Path.{_≡_}
-use Prim.Native.Nat.{ℕ, _+_, _≤_}
-use Rattle.machine.specs.Step.{done, stepOf}
+use Prim.Native.Nat.{ℕ, _+_}
 use Rattle.machine.specs.Run.{runOf}
 use Rattle.machine.specs.declared.Machine.{Machine}
 use Rattle.state.specs.Layout as layout
 use Rattle.host.specs.Handed.{Handed, Hands, wrong-length, run, handedBack}
-use Rattle.demands.specs.History.{World, codeAt, pointerE, Moment, step, History, then, joined, stepsIn, cyclesIn, Above}
+use Rattle.demands.specs.History.{World, History, stepsIn, cyclesIn}
+use Rattle.demands.specs.Sessions.{Given, leftBy, Follows}
 
 -- the bytes of a state carry a machine
 pub record Carries (state : List ℕ) (m : Machine) : Type 0 where
@@ -26,35 +26,26 @@ pub data Calls : List ℕ → List ℕ → Type 0 where
   call : {state end : List ℕ} {handed : Handed} (memory : List ℕ) (budget : ℕ) (result : List ℕ) → Hands state memory budget result handed
       → Calls (handed .state) end → Calls state end
 
--- the steps and the cycles that the calls report, added up; a call with a buffer of another length runs nothing
-abbrev pub stepsOf : {state end : List ℕ} → Calls state end → ℕ
-stepsOf over = 0
-stepsOf (call memory budget result (wrong-length other) rest) = stepsOf rest
-stepsOf (call memory budget result (run m all long fits is kept) rest) = runOf memory m budget .ran .steps .0 + stepsOf rest
+-- the runs of the calls, with the steps and the cycles that they report, added up; a call with a buffer of another length runs nothing
+abbrev pub runsOf : {state end : List ℕ} → Calls state end → List Given
+runsOf over = []
+runsOf (call memory budget result (wrong-length other) rest) = runsOf rest
+runsOf (call memory budget result (run m all long fits is kept) rest) = record { memory = memory; budget = budget } ∷ runsOf rest
 
-abbrev pub cyclesOf : {state end : List ℕ} → Calls state end → ℕ
-cyclesOf over = 0
-cyclesOf (call memory budget result (wrong-length other) rest) = cyclesOf rest
-cyclesOf (call memory budget result (run m all long fits is kept) rest) = runOf memory m budget .ran .cycles .0 + cyclesOf rest
+abbrev pub stepsReported : {state end : List ℕ} → Calls state end → ℕ
+stepsReported over = 0
+stepsReported (call memory budget result (wrong-length other) rest) = stepsReported rest
+stepsReported (call memory budget result (run m all long fits is kept) rest) = runOf memory m budget .ran .steps .0 + stepsReported rest
 
--- one history from w to a machine that the last bytes carry, with as many steps and cycles as the calls report
+abbrev pub cyclesReported : {state end : List ℕ} → Calls state end → ℕ
+cyclesReported over = 0
+cyclesReported (call memory budget result (wrong-length other) rest) = cyclesReported rest
+cyclesReported (call memory budget result (run m all long fits is kept) rest) = runOf memory m budget .ran .cycles .0 + cyclesReported rest
+
+-- the history of these runs, from w to a machine that the last bytes carry, with as many steps and cycles as the calls report
 pub record OneHistory {state end : List ℕ} (calls : Calls state end) (w : World) : Type 0 where
-  pub last : World
-  pub carried : Carries end (last .machine)
-  pub history : History w last
-  pub steps : stepsIn history ≡ stepsOf calls
-  pub cycles : cyclesIn history ≡ cyclesOf calls
-
--- a history comes to a CATCH at o that is carried out and leads to w, goes on to v with E above the old E, and then comes to z by
--- the moment that brings E down
-pub record Loses {a b : World} (history : History a b) (o w v z : World) : Type 0 where
-  pub before : History a o
-  pub catches : codeAt o ≡ 0x0B
-  pub cost : ℕ
-  pub carried : stepOf (o .memory) (o .machine) ≡ done (w .memory) (w .machine) cost
-  pub between : History w v
-  pub above : Above (pointerE o) between
-  pub last : Moment v z
-  pub down : pointerE z ≤ pointerE o
-  pub after : History z b
-  pub whole : history ≡ joined before (then (step cost carried) (joined between (then last after)))
+  pub history : History w (leftBy w (runsOf calls))
+  pub follows : Follows w (runsOf calls) history
+  pub carried : Carries end (leftBy w (runsOf calls) .machine)
+  pub steps : stepsIn history ≡ stepsReported calls
+  pub cycles : cyclesIn history ≡ cyclesReported calls

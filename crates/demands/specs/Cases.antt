@@ -1,12 +1,11 @@
 -- The first three starred lines of the bench sheet, taken apart: the step to a CATCH, the CATCH, and the steps of the caught word.
-use mathlib.Core.Path.{_≡_}
 use mathlib.Core.List.{List, [], _∷_}
 use Prim.Native.Nat.{ℕ}
 use Rattle.plain.specs.Zeros.{padded}
 use Rattle.machine.specs.Limits.{memoryLength}
 use Rattle.machine.specs.State.{freshMachine}
-use Rattle.demands.specs.History.{World, world, codeAt}
-use Rattle.demands.specs.Back.{Back}
+use Rattle.demands.specs.History.{World, world}
+use Rattle.demands.specs.Back.{Seen}
 use Rattle.demands.specs.Walk.{ahead, walk}
 
 -- a fresh machine with the code from address 0, and the world after its first step: at a CATCH
@@ -20,10 +19,9 @@ atCatch code = ahead (start code)
 abbrev pub before : List ℕ → ℕ → World
 before code n = walk n (ahead (atCatch code))
 
--- the next step, with this code, brings the machine back
-pub record Shown (code : List ℕ) (n way : ℕ) : Type 0 where
-  pub back : Back (atCatch code) (before code n) (ahead (before code n))
-  pub by : codeAt (before code n) ≡ way
+-- the next step, with this code, loses what the CATCH pushed, and the machine is back
+abbrev pub Shown : List ℕ → ℕ → ℕ → Type 0
+Shown code n way = Seen (start code) (atCatch code) (ahead (atCatch code)) (before code n) (ahead (before code n)) way
 
 -- the caught word throws FF; it exits; it takes its return cell
 abbrev pub throws : List ℕ

@@ -6,8 +6,8 @@ use Prim.Native.Nat.{ℕ, zero, suc, _+_, _<_}
 use Rattle.numbers.specs.Bytes.{byteAt}
 use Rattle.machine.specs.Fetch.{instructionAt}
 use Rattle.machine.specs.Step.{done, stepOf, costOf}
-use Rattle.machine.specs.State.{Whole}
-use Rattle.machine.specs.Run.{After, acceptable}
+use Rattle.machine.specs.State.{wellFormed, Whole}
+use Rattle.machine.specs.Run.{After}
 use Rattle.machine.specs.declared.Machine.{Machine}
 
 pub record World : Type 0 where
@@ -74,8 +74,8 @@ abbrev pub Above : ℕ → {w v : World} → History w v → Type 0
 Above n {w} here = n < pointerE w
 Above n {w} (then moment rest) = (n < pointerE w) × Above n rest
 
--- a state that a run accepts, whatever budget it was given; its lists are as long as the arrays that they stand for
-pub record Accepted (w : World) : Type 0 where
-  pub whole : Whole (w .machine)
-  pub budget : ℕ
-  pub accepted : acceptable (w .memory) (w .machine) budget ≡ true
+-- a machine that a run accepts, with a memory of its length and a budget within the limit; its lists are as long as the arrays
+-- that they stand for
+pub record Accepted (m : Machine) : Type 0 where
+  pub whole : Whole m
+  pub formed : wellFormed m ≡ true

@@ -1,10 +1,41 @@
--- Runs one after another.
-use mathlib.Core.List.{List}
+-- Runs one after another: what a host does that holds a machine.
+use mathlib.Core.List.{List, [], _∷_}
+use mathlib.Core.Path.{_≡_, refl}
 use Prim.Native.Nat.{ℕ}
-use Rattle.machine.specs.Run.{runOf}
-use Rattle.demands.specs.History.{World, left}
+use Rattle.machine.specs.Run.{After, runOf}
+use Rattle.demands.specs.History.{World, world, left, host, History, here, then, joined, stepsIn, cyclesIn, Unbroken}
 
--- the host hands the machine back unaltered, with any memory and any budget
-pub data Session : World → World → Type 0 where
-  over : {w : World} → Session w w
-  run : {w v : World} (memory : List ℕ) (budget : ℕ) → Session (left (runOf memory (w .machine) budget)) v → Session w v
+-- what the host hands in for a run, beside the machine: any memory and any budget
+pub record Given : Type 0 where
+  pub memory : List ℕ
+  pub budget : ℕ
+
+-- where the run begins, with the machine of w unaltered, and what it leaves
+abbrev pub begun : World → Given → World
+begun w g = world (g .memory) (w .machine)
+
+abbrev pub ranBy : World → Given → After
+ranBy w g = runOf (g .memory) (w .machine) (g .budget)
+
+-- what these runs leave, one after another
+abbrev pub leftBy : World → List Given → World
+leftBy w [] = w
+leftBy w (g ∷ gs) = leftBy (left (ranBy w g)) gs
+
+-- a history of completed instructions alone, from w to what a run left, as many as the run reports and in as many cycles
+pub record RunHistory (w : World) (a : After) : Type 0 where
+  pub history : History w (left a)
+  pub unbroken : Unbroken history
+  pub steps : stepsIn history ≡ a .ran .steps .0
+  pub cycles : cyclesIn history ≡ a .ran .cycles .0
+
+-- a history from w to v that is these runs: for each of them the host's change of memory, then the history of the run
+pub data Follows {v : World} : (w : World) → List Given → History w v → Type 0 where
+  none : Follows v [] here
+  next : {w : World} {g : Given} {gs : List Given} {later : History (left (ranBy w g)) v} (now : RunHistory (begun w g) (ranBy w g))
+      → Follows (left (ranBy w g)) gs later → Follows w (g ∷ gs) (then (host refl) (joined (now .history) later))
+
+-- one history of all of them
+pub record SessionHistory (w : World) (runs : List Given) : Type 0 where
+  pub history : History w (leftBy w runs)
+  pub follows : Follows w runs history

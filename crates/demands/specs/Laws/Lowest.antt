@@ -19,7 +19,7 @@ abbrev pub rising : ℕ → List Test → Bool
 rising n [] = true
 rising n (t ∷ ts) = pick (apart (t .number)) (rising n ts) (both (leb n (t .number)) (rising (suc (t .number)) ts))
 
-clash : (b : Bool) → b ≡ true → b ≡ false → ⊥
+pub clash : (b : Bool) → b ≡ true → b ≡ false → ⊥
 clash b t f = subst T (sym t ∙ f) tt
 
 -- where all tests pass, none applies

@@ -20,7 +20,7 @@ abbrev pub isDone : Stepped → Bool
 isDone (refused number) = false
 isDone (done memory machine k) = true
 
-abbrev costOfStep : Stepped → ℕ
+abbrev pub costOfStep : Stepped → ℕ
 costOfStep (refused number) = 0
 costOfStep (done memory machine k) = k
 

@@ -1,5 +1,4 @@
 -- Demand 3 for hosts that hold a machine as bytes: any number of calls on the same bytes is one history.
-use mathlib.Core.Bool.{Bool, true, false}
 use mathlib.Core.List.{List}
 use mathlib.Core.Logic.{_⊎_}
 use mathlib.Core.Path.{_≡_, refl, sym, ap, _∙_, subst}
@@ -8,18 +7,18 @@ use native.Mathlib.Omega.{arith}
 use lib.ListN.{length}
 use Rattle.machine.specs.Fits.{AllBytes, Exist}
 use Rattle.machine.specs.Laws.Carries.{run-carries}
-use Rattle.machine.specs.Run.{After, ended, runFrom, runOf, acceptable}
+use Rattle.machine.specs.Run.{After, runOf}
 use Rattle.machine.specs.declared.Machine.{Machine}
 use Rattle.state.specs.Layout as layout
 use Rattle.state.specs.Laws.Spelling.{state-sound}
 use Rattle.state.specs.Laws.Fits.{machine-carried, machine-exists, machine-whole}
 use Rattle.host.specs.Handed.{Handed, Hands, wrong-length, run, handedBack}
-use Rattle.demands.specs.History.{World, world, left, host, History, here, then, joined, stepsIn, cyclesIn, Resets}
-use Rattle.demands.specs.Back.{Back}
-use Rattle.demands.specs.Calls.{Carries, Handled, Calls, over, call, OneHistory, Loses}
-use Rattle.demands.specs.Laws.Course.{course}
+use Rattle.demands.specs.History.{World, left, host, History, here, then, joined, Resets}
+use Rattle.demands.specs.Back.{Loses, through, Back}
+use Rattle.demands.specs.Sessions.{Follows, none, next}
+use Rattle.demands.specs.Calls.{Carries, Handled, Calls, over, call, runsOf, OneHistory}
 use Rattle.demands.specs.Laws.Joined.{steps-joined, cycles-joined}
-use Rattle.demands.specs.Theorems.Three.{three}
+use Rattle.demands.specs.Theorems.Sessions.{run-history, three-by-runs}
 
 -- no two machines are carried by the same bytes
 one-machine : (state : List ℕ) (m n : Machine) → Carries state m → Carries state n → m ≡ n
@@ -54,46 +53,34 @@ pub handled-again : (state memory later : List ℕ) (budget again : ℕ) (result
 handled-again state memory later budget again result other handed back m carries long also first second =
     handled (handed .state) later again other back (runOf memory m budget .ran .machine) (handled state memory budget result handed m carries long first .carried) also second
 
--- a whole run as a history: its steps and cycles are those that it reports
-record Ran (memory : List ℕ) (m : Machine) (a : After) : Type 0 where
-  history : History (world memory m) (left a)
-  steps : stepsIn history ≡ a .ran .steps .0
-  cycles : cyclesIn history ≡ a .ran .cycles .0
-
-ran : (memory : List ℕ) (m : Machine) (budget : ℕ) → Ran memory m (runOf memory m budget)
-unfolding runOf
-ran memory m budget = go (acceptable memory m budget)
-  where
-    go : (b : Bool) → Ran memory m (elim b as (λ x. After) [ true ↦ runFrom budget memory m 0 0 | false ↦ ended 2 memory m 0 0 ])
-    go true =
-        let c = course budget memory m 0 0 in
-        record { history = c .history; steps = omega (arith, c .steps); cycles = omega (arith, c .cycles) }
-    go false = record { history = here; steps = refl; cycles = refl }
-
--- Any number of calls is one history, from the machine that the first bytes carry to the machine that the last ones carry: it carries
--- out as many instructions as the calls report, in as many cycles.
+-- Any number of calls is one history, from the machine that the first bytes carry to the machine that the last ones carry: run after
+-- run, each with the very machine that the one before it left. It carries out as many instructions as the calls report, in as many
+-- cycles.
 pub one-history : {state end : List ℕ} (calls : Calls state end) (w : World) → Carries state (w .machine) → OneHistory calls w
-one-history over w carries = record { last = w; carried = carries; history = here; steps = refl; cycles = refl }
+one-history over w carries = record { history = here; follows = none; carried = carries; steps = refl; cycles = refl }
 one-history (call memory budget result (wrong-length other) rest) w carries =
     let later = one-history rest w carries in
-    record { last = later .last; carried = later .carried; history = later .history; steps = later .steps; cycles = later .cycles }
+    record { history = later .history; follows = later .follows; carried = later .carried; steps = later .steps; cycles = later .cycles }
 one-history (call {state = state} memory budget result (run m all long fits is kept) rest) w carries =
     let same : m ≡ w .machine = one-machine state m (w .machine) (record { fit = fits; spelled = is }) carries in
-    let now = ran memory m budget in
-    let later = one-history rest (left (runOf memory m budget)) (record { fit = kept; spelled = refl }) in
+    let a = runOf memory (w .machine) budget in
+    let now = run-history memory (w .machine) budget in
+    let carries-on = subst (λ (x : Machine). Carries (layout.state .bytes (runOf memory m budget .ran .machine)) (runOf memory x budget .ran .machine)) same
+    (record { fit = kept; spelled = refl }) in
+    let later = one-history rest (left a) carries-on in
+    let as-run : a ≡ runOf memory m budget = ap (λ (x : Machine). runOf memory x budget) (sym same) in
+    let same-steps : a .ran .steps .0 ≡ runOf memory m budget .ran .steps .0 = ap (λ (x : After). x .ran .steps .0) as-run in
+    let same-cycles : a .ran .cycles .0 ≡ runOf memory m budget .ran .cycles .0 = ap (λ (x : After). x .ran .cycles .0) as-run in
     record {
-      last = later .last;
+      history = then (host refl) (joined (now .history) (later .history));
+      follows = next now (later .follows);
       carried = later .carried;
-      history = then (host same) (joined (now .history) (later .history));
-      steps = omega (arith, steps-joined (now .history) (later .history), now .steps, later .steps);
-      cycles = omega (arith, cycles-joined (now .history) (later .history), now .cycles, later .cycles);
+      steps = omega (arith, steps-joined (now .history) (later .history), now .steps, later .steps, same-steps);
+      cycles = omega (arith, cycles-joined (now .history) (later .history), now .cycles, later .cycles, same-cycles);
     }
 
--- From bytes that carry a machine that a run accepts, through any number of calls, with any memory from the host between them:
--- where the history of the calls loses the exception level of a CATCH, that was a RESETSP, or the machine is back.
-pub three-by-calls : {state end : List ℕ} (calls : Calls state end) (a : World) (carries : Carries state (a .machine)) (budget : ℕ)
-    → acceptable (a .memory) (a .machine) budget ≡ true → {o w v z : World} (l : Loses (one-history calls a carries .history) o w v z)
-    → Resets (l .last) ⊎ Back o v z
-three-by-calls calls a carries budget accepted l =
-    three (record { whole = machine-whole (a .machine) (carries .fit); budget = budget; accepted = accepted })
-    (l .before) (l .catches) (l .cost) (l .carried) (l .between) (l .above) (l .last) (l .down)
+-- Demand 3 over any number of calls, with any memory from the host between them: where their history loses what a CATCH pushed, in
+-- the same call or in a later one, that was a RESETSP, or the machine is back.
+pub three-by-calls : {state end : List ℕ} (calls : Calls state end) {a o w v z b : World} → Carries state (a .machine)
+    → (l : Loses a o w v z) (after : History z b) → Follows a (runsOf calls) (through l after) → Resets (l .last) ⊎ Back o v z
+three-by-calls calls {a} carries l after follows = three-by-runs (machine-whole (a .machine) (carries .fit)) (runsOf calls) l after follows

@@ -6,60 +6,72 @@ use mathlib.Core.List.{List}
 use Prim.Native.Nat.{ℕ}
 use lib.Dec.{T, leb, eqb, leb→le, eqb→eq}
 use Rattle.plain.specs.Choice.{not, both}
-use Rattle.plain.specs.Zeros.{padded}
-use Rattle.plain.specs.Laws.Choice.{both-parts, is-true}
+use Rattle.plain.specs.Laws.Choice.{both-parts}
 use Rattle.links.specs.Laws.Fresh.{fresh-shaped}
-use Rattle.machine.specs.Limits.{memoryLength}
-use Rattle.machine.specs.State.{freshMachine, machineWith, Whole}
-use Rattle.machine.specs.Run.{acceptable}
-use Rattle.demands.specs.History.{codeAt, pointerE, here, then, Accepted}
+use Rattle.demands.specs.History.{World, codeAt, pointerE, History, here, then, Accepted}
+use Rattle.demands.specs.Back.{Loses, Seen}
 use Rattle.demands.specs.Walk.{ahead, walk}
 use Rattle.demands.specs.Cases.{start, atCatch, before, Shown, throws, exits, pops}
 use Rattle.demands.specs.Theorems.Three.{three}
-use Rattle.demands.specs.Laws.Walks.{stepAt, isDone, ahead-step, ahead-moment, not-reset, calm, walked}
+use Rattle.demands.specs.Laws.Walks.{stepAt, isDone, costOfStep, ahead-step, ahead-moment, not-reset, calm, Walked, walked}
 
-pub fresh-whole : Whole freshMachine
-unfolding freshMachine machineWith padded
-fresh-whole = record { cells-long = refl; shaped = fresh-shaped }
+-- a fresh machine is accepted
+pub start-accepted : (code : List ℕ) → Accepted (start code .machine)
+unfolding Rattle.plain.specs.Zeros.padded Rattle.machine.specs.State.freshMachine Rattle.machine.specs.State.machineWith
+    Rattle.machine.specs.State.wellFormed Rattle.links.specs.Linked.linked
+    Rattle.links.specs.Fresh.freshLinks Rattle.links.specs.Fresh.freshFrame Rattle.links.specs.Fresh.freshLevel Rattle.links.specs.Actions.noLocals
+start-accepted code = record { whole = record { cells-long = refl; shaped = fresh-shaped }; formed = refl }
 
-pub start-accepted : (code : List ℕ) → T (acceptable (padded memoryLength code) freshMachine 0) → Accepted (start code)
-start-accepted code t = record { whole = fresh-whole; budget = 0; accepted = is-true _ t }
+-- a loss by computation
+pub seen : {a o v : World} → Accepted (a .machine) → History a o → T (eqb (codeAt o) 0x0B) → T (isDone (stepAt o)) →
+    Walked (pointerE o) (ahead o) v → T (isDone (stepAt v)) → T (leb (pointerE (ahead v)) (pointerE o)) →
+    T (not (eqb (codeAt v) 0x0C)) → (way : ℕ) → T (eqb (codeAt v) way) → Seen a o (ahead o) v (ahead v) way
+seen {a} {o} {v} accepted before catches carried between goes down other way is =
+    let l : Loses a o (ahead o) v (ahead v) =
+    record {
+      before = before;
+      catches = eqb→eq (codeAt o) 0x0B catches;
+      cost = costOfStep (stepAt o);
+      carried = ahead-step o carried;
+      between = between .history;
+      above = between .above;
+      last = ahead-moment v goes;
+      down = leb→le (pointerE (ahead v)) (pointerE o) down;
+    } in
+    record {
+      accepted = accepted;
+      loses = l;
+      by = eqb→eq (codeAt v) way is;
+      back = ⊎-elim (λ resets. absurd (not-reset v goes other resets)) (λ back. back) (three accepted l);
+    }
 
 unfoldable loses : List ℕ → ℕ → ℕ → Bool
 loses code n way =
-    both (acceptable (padded memoryLength code) freshMachine 0)
-    (both (isDone (stepAt (start code)))
+    both (isDone (stepAt (start code)))
     (both (eqb (codeAt (atCatch code)) 0x0B)
     (both (isDone (stepAt (atCatch code)))
     (both (calm (pointerE (atCatch code)) n (ahead (atCatch code)))
     (both (isDone (stepAt (before code n)))
     (both (leb (pointerE (ahead (before code n))) (pointerE (atCatch code)))
-    (both (not (eqb (codeAt (before code n)) 0x0C)) (eqb (codeAt (before code n)) way))))))))
+    (both (not (eqb (codeAt (before code n)) 0x0C)) (eqb (codeAt (before code n)) way)))))))
 
 shown : (code : List ℕ) (n way : ℕ) → T (loses code n way) → Shown code n way
 unfolding loses
 shown code n way t =
     let o = atCatch code in
-    let z = both-parts (acceptable (padded memoryLength code) freshMachine 0) _ t in
-    let a = both-parts (isDone (stepAt (start code))) _ (z .1) in
+    let v = before code n in
+    let a = both-parts (isDone (stepAt (start code))) _ t in
     let b = both-parts (eqb (codeAt o) 0x0B) _ (a .1) in
     let c = both-parts (isDone (stepAt o)) _ (b .1) in
     let d = both-parts (calm (pointerE o) n (ahead o)) _ (c .1) in
-    let e = both-parts (isDone (stepAt (before code n))) _ (d .1) in
-    let f = both-parts (leb (pointerE (ahead (before code n))) (pointerE o)) _ (e .1) in
-    let g = both-parts (not (eqb (codeAt (before code n)) 0x0C)) _ (f .1) in
+    let e = both-parts (isDone (stepAt v)) _ (d .1) in
+    let f = both-parts (leb (pointerE (ahead v)) (pointerE o)) _ (e .1) in
+    let g = both-parts (not (eqb (codeAt v) 0x0C)) _ (f .1) in
     let between = walked (pointerE o) n (ahead o) (d .0) in
-    record {
-      back =
-          ⊎-elim (λ resets. absurd (not-reset (before code n) (e .0) (g .0) resets)) (λ back. back)
-          (three (start-accepted code (z .0)) (then (ahead-moment (start code) (a .0)) here) (eqb→eq (codeAt o) 0x0B (b .0)) _
-          (ahead-step o (c .0)) (between .history) (between .above) (ahead-moment (before code n) (e .0)) (leb→le _ (pointerE o) (f .0)));
-      by = eqb→eq (codeAt (before code n)) way (g .1);
-    }
+    seen (start-accepted code) (then (ahead-moment (start code) (a .0)) here) (b .0) (c .0) between (e .0) (f .0) (g .0) way (g .1)
 
 ways-hold : T (loses throws 1 0x0D) × T (loses exits 0 0x3D) × T (loses pops 0 0x09)
-unfolding loses padded calm walk freshMachine machineWith acceptable
-    Rattle.machine.specs.State.wellFormed Rattle.links.specs.Linked.linked
+unfolding loses calm walk Rattle.plain.specs.Zeros.padded Rattle.machine.specs.State.freshMachine Rattle.machine.specs.State.machineWith
     Rattle.links.specs.Fresh.freshLinks Rattle.links.specs.Fresh.freshFrame Rattle.links.specs.Fresh.freshLevel Rattle.links.specs.Actions.noLocals
     Rattle.machine.specs.Step.stepOf Rattle.machine.specs.Step.carried Rattle.machine.specs.Fetch.instructionAt
     Rattle.machine.specs.Rows.rowOf Rattle.machine.specs.Codes.entryAt Rattle.machine.specs.Codes.table

@@ -1,26 +1,67 @@
--- Every run is a history, and so is any number of runs with the host's changes of memory between them: so demand 3 holds over them.
-use mathlib.Core.Path.{refl}
+-- Every run is a history, and so is any number of runs with the host's changes of memory between them; demand 3 holds over them.
+use mathlib.Core.Logic.{_⊎_}
+use mathlib.Core.Path.{_≡_, refl, ap, _∙_}
 use mathlib.Core.Bool.{Bool, true, false}
-use mathlib.Core.List.{List}
+use mathlib.Core.List.{List, [], _∷_}
 use Prim.Native.Nat.{ℕ}
+use native.Mathlib.Omega.{arith}
+use Rattle.machine.specs.State.{wellFormed, Whole}
 use Rattle.machine.specs.Run.{After, ended, runFrom, runOf, acceptable}
+use Rattle.machine.specs.Laws.Kept.{formed-true}
+use Rattle.machine.specs.Laws.Accepted.{taken}
 use Rattle.machine.specs.declared.Machine.{Machine}
-use Rattle.demands.specs.History.{World, world, left, History, here, then, host, joined}
-use Rattle.demands.specs.Sessions.{Session, over, run}
+use Rattle.demands.specs.History.{World, world, left, step, host, History, here, then, joined, stepsIn, Resets}
+use Rattle.demands.specs.Back.{Loses, through, Back}
+use Rattle.demands.specs.Sessions.{Given, ranBy, RunHistory, Follows, none, next, SessionHistory}
 use Rattle.demands.specs.Laws.Course.{course}
+use Rattle.demands.specs.Laws.Joined.{steps-joined}
+use Rattle.demands.specs.Laws.Lowest.{clash}
+use Rattle.demands.specs.Theorems.Two.{declines}
+use Rattle.demands.specs.Theorems.Three.{three}
 
--- a whole run
-pub run-history : (mem : List ℕ) (m : Machine) (budget : ℕ) → History (world mem m) (left (runOf mem m budget))
+-- A run is a history of completed instructions, with the steps and the cycles that it reports.
+pub run-history : (memory : List ℕ) (m : Machine) (budget : ℕ) → RunHistory (world memory m) (runOf memory m budget)
 unfolding runOf
-run-history mem m budget = go (acceptable mem m budget)
+run-history memory m budget = go (acceptable memory m budget)
   where
     go : (b : Bool) →
-        History (world mem m) (left (elim b as (λ x. After) [ true ↦ runFrom budget mem m 0 0 | false ↦ ended 2 mem m 0 0 ]))
-    go true = course budget mem m 0 0 .history
-    go false = here
+        RunHistory (world memory m) (elim b as (λ x. After) [ true ↦ runFrom budget memory m 0 0 | false ↦ ended 2 memory m 0 0 ])
+    go true =
+        let c = course budget memory m 0 0 in
+        record { history = c .history; unbroken = c .unbroken; steps = omega (arith, c .steps); cycles = omega (arith, c .cycles) }
+    go false = record { history = here; unbroken = tt; steps = refl; cycles = refl }
 
--- any number of them
-pub session-history : {w v : World} → Session w v → History w v
-session-history over = here
-session-history {w} (run memory budget rest) =
-    then (host refl) (joined (run-history memory (w .machine) budget) (session-history rest))
+-- Any number of runs is one history, from the machine that the first was given to what the last one left.
+pub session-history : (w : World) (runs : List Given) → SessionHistory w runs
+session-history w [] = record { history = here; follows = none }
+session-history w (g ∷ gs) =
+    let now = run-history (g .memory) (w .machine) (g .budget) in
+    let later = session-history (left (ranBy w g)) gs in
+    record { history = then (host refl) (joined (now .history) (later .history)); follows = next now (later .follows) }
+
+-- a machine that is not well formed is handed back by every run, with no step
+unformed-declined : (w : World) (g : Given) → wellFormed (w .machine) ≡ false → ranBy w g ≡ ended 2 (g .memory) (w .machine) 0 0
+unformed-declined w g unformed = declines (g .memory) (w .machine) (g .budget) (go (acceptable (g .memory) (w .machine) (g .budget)) refl)
+  where
+    go : (b : Bool) → acceptable (g .memory) (w .machine) (g .budget) ≡ b → acceptable (g .memory) (w .machine) (g .budget) ≡ false
+    go true e = absurd (clash _ (formed-true (w .machine) (taken (g .memory) (w .machine) (g .budget) e .formed)) unformed)
+    go false e = e
+
+unformed-still : {w v : World} {runs : List Given} {h : History w v} → wellFormed (w .machine) ≡ false → Follows w runs h → stepsIn h ≡ 0
+unformed-still unformed none = refl
+unformed-still {w} unformed (next {g = g} {later = later} now rest) =
+    let is = unformed-declined w g unformed in
+    let none-here : ranBy w g .ran .steps .0 ≡ 0 = ap (λ (a : After). a .ran .steps .0) is in
+    let none-later = unformed-still (ap (λ (a : After). wellFormed (a .ran .machine)) is ∙ unformed) rest in
+    omega (arith, steps-joined (now .history) later, now .steps, none-here, none-later)
+
+-- Demand 3 over any number of runs: where their history loses what a CATCH pushed, in the same run or in a later one, that was a
+-- RESETSP, or the machine is back. A machine that no run accepts never comes to a CATCH.
+pub three-by-runs : {a o w v z b : World} → Whole (a .machine) → (runs : List Given) (l : Loses a o w v z) (after : History z b)
+    → Follows a runs (through l after) → Resets (l .last) ⊎ Back o v z
+three-by-runs {a} {o} {w} {v} {z} whole runs l after follows = go (wellFormed (a .machine)) refl
+  where
+    go : (b : Bool) → wellFormed (a .machine) ≡ b → Resets (l .last) ⊎ Back o v z
+    go true e = three (record { whole = whole; formed = e }) l
+    go false e =
+        absurd (omega (arith, unformed-still e follows, steps-joined (l .before) (then (step (l .cost) (l .carried)) (joined (l .between) (then (l .last) after)))))

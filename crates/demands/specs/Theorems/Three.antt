@@ -1,13 +1,11 @@
 -- Demand 3: whatever a caught word does, when its CATCH's exception level is gone the machine is back where it was before the CATCH.
 -- However deep the calls and however many the inner CATCHes, over any number of runs, with any memory from the host between them.
 use mathlib.Core.Logic.{_⊎_, ⊎-elim}
-use mathlib.Core.Path.{_≡_}
-use Prim.Native.Nat.{ℕ, _<_, _≤_}
+use Prim.Native.Nat.{ℕ, _<_}
 use native.Mathlib.Omega.{arith}
-use Rattle.machine.specs.Step.{done, stepOf}
-use Rattle.demands.specs.History.{World, codeAt, pointerE, Moment, Resets, History, here, then, Above, Accepted}
-use Rattle.demands.specs.Back.{Back}
-use Rattle.machine.specs.Laws.Accepted.{taken}
+use Rattle.machine.specs.Laws.Kept.{formed}
+use Rattle.demands.specs.History.{World, pointerE, Resets, History, here, then, Above, Accepted}
+use Rattle.demands.specs.Back.{Loses, Back}
 use Rattle.demands.specs.Laws.Histories.{history-kept}
 use Rattle.demands.specs.Laws.Stood.{Stood, catch-stood, moment-next, reset-down}
 
@@ -30,11 +28,9 @@ stood-through o {w} s (then {u = x} moment rest) above =
 -- any history with E above the old E; then the moment that brings E down was a RESETSP, or the machine is back: by EXIT, THROW of
 -- non-zero or R>. This rules out a throw that keeps P too high, a level dropped too early or too late, an inner word that could
 -- reach below the CATCH, and a loss of the level by anything else.
-pub three : {a o w v z : World} → Accepted a → History a o → codeAt o ≡ 0x0B →
-    (k : ℕ) → stepOf (o .memory) (o .machine) ≡ done (w .memory) (w .machine) k →
-    (between : History w v) → Above (pointerE o) between → (last : Moment v z) → pointerE z ≤ pointerE o → Resets last ⊎ Back o v z
-three {a} {o} {w} {v} {z} start before catches k carried between above last down =
-    let h = history-kept before (start .whole) (taken (a .memory) (a .machine) (start .budget) (start .accepted) .formed) in
-    let caught = catch-stood o w k (h .0) (h .1) catches carried in
-    ⊎-elim (λ (stood : Stood o z). absurd (omega (arith, stood .stands .e-above))) (λ ends. ends)
-    (moment-next o v z (stood-through o caught between above) last)
+pub three : {a o w v z : World} → Accepted (a .machine) → (l : Loses a o w v z) → Resets (l .last) ⊎ Back o v z
+three {a} {o} {w} {v} {z} start l =
+    let h = history-kept (l .before) (start .whole) (formed (a .machine) (start .formed)) in
+    let caught = catch-stood o w (l .cost) (h .0) (h .1) (l .catches) (l .carried) in
+    ⊎-elim (λ (stood : Stood o z). absurd (omega (arith, stood .stands .e-above, l .down))) (λ ends. ends)
+    (moment-next o v z (stood-through o caught (l .between) (l .above)) (l .last))

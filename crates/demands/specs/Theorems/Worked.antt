@@ -1,7 +1,6 @@
 -- Demand 3 worked through: a call and an inner CATCH between, the host's change of memory, and the level lost by a THROW of the second run.
-use mathlib.Core.Logic.{⊎-elim}
 use mathlib.Core.Path.{_≡_, ap, _∙_}
-use lib.Dec.{T, leb, eqb, leb→le, eqb→eq}
+use lib.Dec.{T, leb, eqb, eqb→eq}
 use native.Mathlib.Omega.{arith}
 use Rattle.plain.specs.Choice.{not}
 use Rattle.plain.specs.Zeros.{padded}
@@ -11,16 +10,14 @@ use Rattle.machine.specs.State.{freshMachine, machineWith}
 use Rattle.machine.specs.Rows.{top}
 use Rattle.machine.specs.Run.{runOf, acceptable}
 use Rattle.demands.specs.History.{World, left, codeAt, pointerE, here, then}
-use Rattle.demands.specs.Back.{Way, by-exit, by-pop, by-throw, Back}
+use Rattle.demands.specs.Back.{Way, by-exit, by-pop, by-throw, Seen}
 use Rattle.demands.specs.Walk.{ahead, walk}
 use Rattle.demands.specs.Cases.{start, atCatch}
 use Rattle.demands.specs.Worked.{code, changed, paused, resumed, last, end}
-use Rattle.demands.specs.Theorems.Three.{three}
-use Rattle.demands.specs.Theorems.Cases.{start-accepted}
-use Rattle.demands.specs.Laws.Walks.{stepAt, isDone, ahead-step, ahead-moment, not-reset, goes, run-walks, calm, walked, host-between}
+use Rattle.demands.specs.Theorems.Cases.{start-accepted, seen}
+use Rattle.demands.specs.Laws.Walks.{stepAt, isDone, ahead-moment, goes, run-walks, calm, walked, host-between}
 
 record Holds : Type 0 where
-  taken : T (acceptable (padded memoryLength code) freshMachine 0)
   first : T (isDone (stepAt (start code)))
   catches : T (eqb (codeAt (atCatch code)) 0x0B)
   carried : T (isDone (stepAt (atCatch code)))
@@ -44,7 +41,6 @@ unfolding padded goes calm walk freshMachine machineWith acceptable
     Rattle.machine.specs.Rows.rowOf Rattle.machine.specs.Codes.entryAt Rattle.machine.specs.Codes.table
 holds =
     record {
-      taken = tt;
       first = tt;
       catches = tt;
       carried = tt;
@@ -61,21 +57,16 @@ holds =
       two-goes = tt;
     }
 
-is-throw : codeAt last ≡ 0x0D
-is-throw = eqb→eq (codeAt last) 0x0D (holds .thrown)
-
--- the machine is back at the outer CATCH
-pub worked : Back (atCatch code) last end
+-- what the outer CATCH pushed is lost by that THROW, and the machine is back
+pub worked : Seen (start code) (atCatch code) (ahead (atCatch code)) last end 0x0D
 unfolding walk
 worked =
     let o = atCatch code in
     let one = walked (pointerE o) 4 (ahead o) (holds .one-calm) in
     let two = walked (pointerE o) 3 resumed (holds .two-calm) in
     let both-runs = host-between (pointerE o) (padded memoryLength changed) (one .history) (one .above) two in
-    ⊎-elim (λ resets. absurd (not-reset last (holds .ends) (holds .other) resets)) (λ back. back)
-    (three (start-accepted code (holds .taken)) (then (ahead-moment (start code) (holds .first)) here)
-    (eqb→eq (codeAt o) 0x0B (holds .catches)) _ (ahead-step o (holds .carried)) (both-runs .history) (both-runs .above)
-    (ahead-moment last (holds .ends)) (leb→le _ (pointerE o) (holds .down)))
+    seen (start-accepted code) (then (ahead-moment (start code) (holds .first)) here) (holds .catches) (holds .carried) both-runs
+    (holds .ends) (holds .down) (holds .other) 0x0D (holds .thrown)
 
 thrown-on-top : (o v z : World) → Way o v z → codeAt v ≡ 0x0D → top (z .machine) ≡ top (v .machine)
 thrown-on-top o v z (by-exit is) e = absurd (omega (arith, is, e))
@@ -84,7 +75,7 @@ thrown-on-top o v z (by-throw is other p on-top) e = on-top
 
 -- with the code 9 on top, where the host changed it
 pub worked-code : top (end .machine) ≡ 9
-worked-code = thrown-on-top (atCatch code) last end (worked .way) is-throw ∙ eqb→eq (top (last .machine)) 9 (holds .nine)
+worked-code = thrown-on-top (atCatch code) last end (worked .back .way) (worked .by) ∙ eqb→eq (top (last .machine)) 9 (holds .nine)
 
 -- and it ends a second run of 4 steps, after a first of 6
 pub first-run : left (runOf (padded memoryLength code) freshMachine 6) ≡ paused
