@@ -1,4 +1,4 @@
--- Demand 3, its words: when a machine is back where it was before a CATCH, and how it came there.
+-- Demand 3, its words: the loss of what a CATCH pushed, when a machine is back where it was before the CATCH, and how it came there.
 use mathlib.Core.Path.{_≡_}
 use Prim.Native.Nat.{ℕ, _≤_}
 use Rattle.links.specs.Restored.{Restored}

@@ -4,6 +4,8 @@ use mathlib.Core.List.{List, [], _∷_}
 use Prim.Native.Nat.{ℕ}
 use lib.Dec.{eqb}
 use Rattle.plain.specs.Choice.{pick, both}
+use Rattle.plain.specs.Zeros.{padded}
+use Rattle.machine.specs.Limits.{memoryLength}
 use Rattle.machine.specs.State.{machineWith}
 use Rattle.demands.specs.History.{world}
 use Rattle.demands.specs.Walk.{ahead}
@@ -35,4 +37,4 @@ moves code (x ∷ xs) = pick (eqb code (x .code)) true (moves code xs)
 -- each of them does
 abbrev pub allMove : List Mover → Bool
 allMove [] = true
-allMove (x ∷ xs) = both (eqb (ahead (world (x .code ∷ []) (machineWith (x .cells))) .machine .flag) 1) (allMove xs)
+allMove (x ∷ xs) = both (eqb (ahead (world (padded memoryLength (x .code ∷ [])) (machineWith (x .cells))) .machine .flag) 1) (allMove xs)

@@ -12,7 +12,7 @@ pub mod One
 pub mod Sessions
 -- calls of the exported run on the same bytes
 pub mod Calls
--- when a machine is back where it was before a CATCH
+-- the loss of what a CATCH pushed, and when a machine is back where it was before
 pub mod Back
 -- so many steps ahead
 pub mod Walk

@@ -1,7 +1,7 @@
 -- Which of several tests gives the answer.
 use mathlib.Core.Logic.{_⊎_}
 use mathlib.Core.Path.{_≡_}
-use mathlib.Core.Bool.{Bool, true, false}
+use mathlib.Core.Bool.{true, false}
 use mathlib.Core.List.{List, [], _∷_}
 use Prim.Native.Nat.{ℕ, _≤_}
 use Rattle.machine.specs.Checks.{Test}
@@ -16,14 +16,10 @@ abbrev pub First : ℕ → List Test → Type 0
 First k [] = ⊥
 First k (t ∷ ts) = ((t .number ≡ k) × (t .holds ≡ true)) ⊎ ((t .holds ≡ false) × First k ts)
 
--- the numbers of tests that stand apart from the order of the numbers: none does
-abbrev pub apart : ℕ → Bool
-apart number = false
-
--- n applies, and nothing lower does, but for those apart
+-- n applies, and nothing lower does
 pub record Lowest (n : ℕ) (ts : List Test) : Type 0 where
   pub applies : Applies n ts
-  pub lowest : (k : ℕ) → apart k ≡ false → Applies k ts → n ≤ k
+  pub lowest : (k : ℕ) → Applies k ts → n ≤ k
 
 -- the highest number by which an instruction is refused
 abbrev pub highest : ℕ

@@ -2,13 +2,13 @@
 pub mod One
 -- demand 2: a run is its instructions one after another, counted as they should be
 pub mod Two
--- demand 3: after a CATCH the machine comes back
+-- demand 3: after a CATCH the machine comes back, unless by RESETSP
 pub mod Three
 -- demands 1 and 2 said of images
 pub mod Images
 -- a state that a run hands back is taken by the next
 pub mod Handed
--- any number of runs is one history
+-- any number of runs is one history, and demand 3 holds over it
 pub mod Sessions
 -- demand 3 for hosts that hold a machine as bytes
 pub mod Calls

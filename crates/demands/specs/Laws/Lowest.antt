@@ -1,6 +1,6 @@
--- In a list of tests whose numbers rise, but for those apart, the first test that holds has the lowest number of those that hold.
+-- In a list of tests whose numbers rise the first test that holds has the lowest number of those that hold.
 use mathlib.Core.Logic.{inl, inr}
-use mathlib.Core.Path.{_≡_, refl, sym, ap, _∙_, subst}
+use mathlib.Core.Path.{_≡_, refl, sym, _∙_, subst}
 use mathlib.Core.Bool.{Bool, true, false}
 use mathlib.Core.List.{List, [], _∷_}
 use Prim.Native.Nat.{ℕ, suc, _≤_}
@@ -12,12 +12,12 @@ use Rattle.machine.specs.Checks.{Test}
 use Rattle.machine.specs.Step.{refused, done, unless}
 use Rattle.machine.specs.Laws.Passed.{AllPass}
 use Rattle.machine.specs.declared.Machine.{Machine}
-use Rattle.demands.specs.Lowest.{Applies, First, apart}
+use Rattle.demands.specs.Lowest.{Applies, First}
 
--- the numbers rise, from n or more, but for those apart
+-- the numbers rise, from n or more
 abbrev pub rising : ℕ → List Test → Bool
 rising n [] = true
-rising n (t ∷ ts) = pick (apart (t .number)) (rising n ts) (both (leb n (t .number)) (rising (suc (t .number)) ts))
+rising n (t ∷ ts) = both (leb n (t .number)) (rising (suc (t .number)) ts)
 
 pub clash : (b : Bool) → b ≡ true → b ≡ false → ⊥
 clash b t f = subst T (sym t ∙ f) tt
@@ -29,20 +29,12 @@ none-applies (t ∷ ts) h k (inl a) = clash (t .holds) (a .1) (h .0)
 none-applies (t ∷ ts) h k (inr a) = none-applies ts (h .1) k a
 
 -- a number that applies is no less than the first
-not-less : (n : ℕ) (ts : List Test) → T (rising n ts) → (k : ℕ) → apart k ≡ false → Applies k ts → n ≤ k
-not-less n [] h k placed a = absurd a
-not-less n (t ∷ ts) h k placed a =
-    go (apart (t .number)) refl h (λ later. not-less n ts later k placed) (λ later. not-less (suc (t .number)) ts later k placed) a
-  where
-    go : (b : Bool) → apart (t .number) ≡ b → T (pick b (rising n ts) (both (leb n (t .number)) (rising (suc (t .number)) ts))) →
-        (T (rising n ts) → Applies k ts → n ≤ k) → (T (rising (suc (t .number)) ts) → Applies k ts → suc (t .number) ≤ k) →
-        Applies k (t ∷ ts) → n ≤ k
-    go true e h same above (inl a) = absurd (clash (apart (t .number)) e (ap apart (a .0) ∙ placed))
-    go true e h same above (inr a) = same h a
-    go false e h same above (inl a) = omega (arith, a .0, leb→le n (t .number) (both-parts (leb n (t .number)) _ h .0))
-    go false e h same above (inr a) =
-        let p = both-parts (leb n (t .number)) _ h in
-        omega (arith, leb→le n (t .number) (p .0), above (p .1) a)
+not-less : (n : ℕ) (ts : List Test) → T (rising n ts) → (k : ℕ) → Applies k ts → n ≤ k
+not-less n [] h k a = absurd a
+not-less n (t ∷ ts) h k (inl a) = omega (arith, a .0, leb→le n (t .number) (both-parts (leb n (t .number)) _ h .0))
+not-less n (t ∷ ts) h k (inr a) =
+    let p = both-parts (leb n (t .number)) _ h in
+    omega (arith, leb→le n (t .number) (p .0), not-less (suc (t .number)) ts (p .1) k a)
 
 -- what passes at every number of the list passes at one that applies
 abbrev pub every : (ℕ → Bool) → List Test → Bool
@@ -71,21 +63,10 @@ first-applies k (t ∷ ts) (inl f) = inl f
 first-applies k (t ∷ ts) (inr f) = inr (first-applies k ts (f .1))
 
 -- where the numbers rise, the first is the lowest
-pub first-least : (n : ℕ) (ts : List Test) → T (rising n ts) → (k : ℕ) → apart k ≡ false → First k ts →
-    (j : ℕ) → apart j ≡ false → Applies j ts → k ≤ j
-first-least n [] h k placed f j later a = absurd f
-first-least n (t ∷ ts) h k placed f j later a =
-    go (apart (t .number)) refl h f a (λ rise first. first-least n ts rise k placed first j later)
-    (λ rise first. first-least (suc (t .number)) ts rise k placed first j later)
-  where
-    go : (b : Bool) → apart (t .number) ≡ b → T (pick b (rising n ts) (both (leb n (t .number)) (rising (suc (t .number)) ts))) →
-        First k (t ∷ ts) → Applies j (t ∷ ts) → (T (rising n ts) → First k ts → Applies j ts → k ≤ j) →
-        (T (rising (suc (t .number)) ts) → First k ts → Applies j ts → k ≤ j) → k ≤ j
-    go true e h (inl f) a same above = absurd (clash (apart (t .number)) e (ap apart (f .0) ∙ placed))
-    go true e h (inr f) (inl a) same above = absurd (clash (t .holds) (a .1) (f .0))
-    go true e h (inr f) (inr a) same above = same h (f .1) a
-    go false e h (inl f) (inl a) same above = omega (arith, f .0, a .0)
-    go false e h (inl f) (inr a) same above =
-        omega (arith, f .0, not-less (suc (t .number)) ts (both-parts (leb n (t .number)) _ h .1) j later a)
-    go false e h (inr f) (inl a) same above = absurd (clash (t .holds) (a .1) (f .0))
-    go false e h (inr f) (inr a) same above = above (both-parts (leb n (t .number)) _ h .1) (f .1) a
+pub first-least : (n : ℕ) (ts : List Test) → T (rising n ts) → (k : ℕ) → First k ts → (j : ℕ) → Applies j ts → k ≤ j
+first-least n [] h k f j a = absurd f
+first-least n (t ∷ ts) h k (inl f) j (inl a) = omega (arith, f .0, a .0)
+first-least n (t ∷ ts) h k (inl f) j (inr a) =
+    omega (arith, f .0, not-less (suc (t .number)) ts (both-parts (leb n (t .number)) _ h .1) j a)
+first-least n (t ∷ ts) h k (inr f) j (inl a) = absurd (clash (t .holds) (a .1) (f .0))
+first-least n (t ∷ ts) h k (inr f) j (inr a) = first-least (suc (t .number)) ts (both-parts (leb n (t .number)) _ h .1) k (f .1) j a

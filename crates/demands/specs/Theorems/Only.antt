@@ -1,5 +1,5 @@
 -- No second answer: two results that meet the promise of a public function are equal, lent memory included.
--- The crates links and word say the same of theirs.
+-- Each other crate with public functions says the same of its own, in its Laws/Only.
 use mathlib.Core.Path.{_≡_, ap, sym, _∙_}
 use mathlib.Core.List.{List}
 use Prim.Native.Nat.{ℕ}

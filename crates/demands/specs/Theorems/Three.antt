@@ -1,5 +1,5 @@
--- Demand 3: whatever a caught word does, when its CATCH's exception level is gone the machine is back where it was before the CATCH.
--- However deep the calls and however many the inner CATCHes, over any number of runs, with any memory from the host between them.
+-- Demand 3: whatever a caught word does, when its CATCH's exception level is gone, unless by RESETSP, the machine is back where it was
+-- before the CATCH. However deep the calls and however many the inner CATCHes, over any number of runs, with any memory from the host between them.
 use mathlib.Core.Logic.{_⊎_, ⊎-elim}
 use Prim.Native.Nat.{ℕ, _<_}
 use native.Mathlib.Omega.{arith}

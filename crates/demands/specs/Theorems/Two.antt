@@ -22,7 +22,7 @@ use Rattle.demands.specs.History.{World, world, codeAt, costAt}
 use Rattle.demands.specs.Course.{Course}
 use Rattle.demands.specs.Laws.Course.{course}
 use Rattle.demands.specs.Added.{added}
-use Rattle.demands.specs.Lowest.{Applies, First, Lowest, apart}
+use Rattle.demands.specs.Lowest.{Applies, First, Lowest}
 use Rattle.demands.specs.Laws.Lowest.{none-applies}
 use Rattle.demands.specs.Laws.Refused.{refused-first, refused-lowest}
 use Rattle.demands.specs.Laws.Carried.{unrefused}
@@ -109,14 +109,15 @@ pub in-order : (mem : List ℕ) (m : Machine) →
     map (λ (t : Test). t .number) (testsAt mem m) ≡ 0 ∷ 3 ∷ 4 ∷ 5 ∷ 6 ∷ 7 ∷ 8 ∷ 9 ∷ 10 ∷ 11 ∷ 12 ∷ 13 ∷ []
 in-order mem m = refl
 
--- A step is refused with the number of the first test that holds.
+-- A step is refused with the number of the first test that holds. This asks nothing of the order: it is what stays where a test's
+-- place in the list is not that of its number.
 pub first-given : (mem : List ℕ) (m : Machine) (k : ℕ) → stepOf mem m ≡ refused k → First k (testsAt mem m)
 first-given mem m k e = refused-first mem m k e
 
 -- That is the lowest number that applies, and a step is carried out exactly where none applies. This rules out a machine that
 -- refuses at will, or that carries out what should be refused.
-pub lowest-given : (mem : List ℕ) (m : Machine) (k : ℕ) → stepOf mem m ≡ refused k → apart k ≡ false → Lowest k (testsAt mem m)
-lowest-given mem m k e placed = refused-lowest mem m k e placed
+pub lowest-given : (mem : List ℕ) (m : Machine) (k : ℕ) → stepOf mem m ≡ refused k → Lowest k (testsAt mem m)
+lowest-given mem m k e = refused-lowest mem m k e
 
 pub none-applied : (mem : List ℕ) (m : Machine) (mem′ : List ℕ) (m′ : Machine) (cost : ℕ) → stepOf mem m ≡ done mem′ m′ cost →
     (k : ℕ) → Applies k (testsAt mem m) → ⊥
