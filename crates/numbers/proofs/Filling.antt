@@ -5,35 +5,17 @@ use Prim.Native.Nat.{ℕ, suc, _+_, _-_, _/_, _%_, _^_, _≤_, _<_}
 use native.Mathlib.Omega.{arith}
 use lib.ListN.{length, set, length-set, length-append}
 use lib.Seq.{sets}
-use Rattle.numbers.specs.Digits.{digit, mostDecimal, decimal, hexadecimal}
-use Rattle.numbers.specs.Laws.Digits.{decimal-small, decimal-large, length-large, decimal-short, decimal-some, length-hexadecimal}
+use Rattle.numbers.specs.Digits.{digit, decimal, hexadecimal}
+use Rattle.numbers.specs.Laws.Digits.{decimal-small, decimal-large, length-large, length-between, decimal-some, length-hexadecimal}
 use Rattle.numbers.specs.Laws.Writing.{sets-last}
 
 -- ---- how many decimal digits there are
 
-pub record Counting (value count rest : ℕ) : Type 0 where
-  pub total : count + length (decimal rest) ≡ length (decimal value) + 1
-  pub rest-fits : rest < 2 ^ 64
-  pub some : 1 ≤ count
-  pub few : count ≤ mostDecimal
+pub few-digits : (n : ℕ) → n < 10 → (1 ≡ length (decimal n)) × (1 ≤ 1)
+few-digits n small = (sym (ap length (decimal-small n small)), omega arith)
 
-pub counting-starts : (value : ℕ) → value < 2 ^ 64 → Counting value 1 value
-counting-starts value fits = record { total = omega arith; rest-fits = fits; some = omega arith; few = omega arith }
-
-pub counting-goes : (value count rest : ℕ) → Counting value count rest → 9 < rest → Counting value (count + 1) (rest / 10)
-counting-goes value count rest c more =
-    let total : count + length (decimal rest) ≡ length (decimal value) + 1 = c .total in
-    let fits : rest < 2 ^ 64 = c .rest-fits in
-    let longer : length (decimal rest) ≡ suc (length (decimal (rest / 10))) = length-large rest (omega arith) fits in
-    let short : length (decimal value) ≤ mostDecimal = decimal-short value in
-    let some : 1 ≤ length (decimal (rest / 10)) = decimal-some (rest / 10) in
-    record { total = omega arith; rest-fits = omega arith; some = omega arith; few = omega arith }
-
-pub counting-ends : (value count rest : ℕ) → Counting value count rest → rest ≤ 9 → count ≡ length (decimal value)
-counting-ends value count rest c less =
-    let total : count + length (decimal rest) ≡ length (decimal value) + 1 = c .total in
-    let one : length (decimal rest) ≡ 1 = ap length (decimal-small rest (omega arith)) in
-    omega arith
+pub many-digits : (k n : ℕ) → 10 ^ k ≤ n → n < 10 ^ suc k → n < 2 ^ 64 → (suc k ≡ length (decimal n)) × (1 ≤ suc k)
+many-digits k n above below fits = (sym (length-between k n above below fits), omega arith)
 
 -- ---- digits put from the last back to the first
 

@@ -2,8 +2,8 @@
 use mathlib.Core.Bool.{Bool, true, false}
 use mathlib.Core.List.{List, [], _∷_, _++_}
 use mathlib.Core.Path.{_≡_, refl, sym, ap, subst, _∙_}
-use Prim.Native.Nat.{ℕ, zero, suc, _/_, _%_, _^_, _≤_, _<_}
-use native.Mathlib.Nat.{pow-suc, div-lt-iff-lt-mul}
+use Prim.Native.Nat.{ℕ, zero, suc, _*_, _/_, _%_, _^_, _≤_, _<_}
+use native.Mathlib.Nat.{pow-suc, one-le-pow, div-lt-iff-lt-mul, le-div-iff-mul-le}
 use native.Mathlib.Omega.{arith}
 use lib.Dec.{ltb}
 use lib.ListN.{length, length-append}
@@ -39,6 +39,15 @@ decimal-large n h fits =
 pub length-large : (n : ℕ) → 10 ≤ n → n < 2 ^ 64 → length (decimal n) ≡ suc (length (decimal (n / 10)))
 length-large n h fits =
     ap length (decimal-large n h fits) ∙ length-append (decimal (n / 10)) (digit (n % 10) ∷ []) ∙ omega arith
+
+-- a number between two neighbouring powers of ten has as many digits as the upper one has zeros
+pub length-between : (k n : ℕ) → 10 ^ k ≤ n → n < 10 ^ suc k → n < 2 ^ 64 → length (decimal n) ≡ suc k
+length-between zero n above below fits = ap length (decimal-small n (omega arith))
+length-between (suc k) n above below fits =
+    let some : 1 ≤ 10 ^ k = one-le-pow k 10 (omega arith) in
+    let tens : 10 ^ k * 10 ≤ n = subst (λ (m : ℕ). m ≤ n) (pow-suc 10 k) above in
+    length-large n (omega arith) fits ∙
+    ap suc (length-between k (n / 10) (le-div-iff-mul-le {k = 10} (omega arith) .1 tens) (tenth-below k n below) (omega arith))
 
 length-digits : (most n : ℕ) → length (digits most n) ≤ most
 unfolding digits
