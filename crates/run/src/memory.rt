@@ -72,12 +72,12 @@ pub(crate) fn literal_long(mem: &[u8], at: usize) -> u32
     numbers::four_bytes(bytes[0], bytes[1], bytes[2], bytes[3])
 }
 
-// A branch's 14-bit offset as a 32-bit number: the sign bit reaches up to bit 31.
+// A branch's 14-bit offset as a 32-bit number: half its range is added, wrapped at the range and taken off again.
 pub(crate) fn branch_offset(code: u8, low: u8) -> u32
     ensures { λ r. ⌜ r ≡ extended (code % 2 ^ 6 * 2 ^ 8 + low) ⌝ }
 {
-    let offset = numbers::two_bytes(code % 0x40, low);
-    offset + offset / 0x2000 * 0xFFFFC000
+    let number = numbers::two_bytes(code, low);
+    std::num::wrapping_sub_u32((number + 0x2000) % 0x4000, 0x2000)
 }
 
 // The low bits of a value, written to a slice of any length.
