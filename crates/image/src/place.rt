@@ -51,11 +51,14 @@ fn cells(file: &[u8], part: Part) -> [u32; Machine::CELLS]
     cells
 }
 
-// The file is known to be good before anything is placed.
+// The file is known to be good before anything is placed. The budget comes first, since a branch after the machine is made
+// would have the compiler copy it.
 pub(crate) fn image(file: &[u8], parts: Parts, memory: &mut [u8]) -> Loaded
     requires { ⌜ GoodFile (now file) parts × (length (now memory) ≡ memoryLength) ⌝ }
     ensures { λ r. ⌜ (now (memory .exit) ≡ padded memoryLength (imageIn (now (file .entry)) parts .memory)) × (handed r ≡ loadedFrom (imageIn (now (file .entry)) parts)) ⌝ }
 {
+    let last = parts.budget;
+    let budget = sections::budget_in(file, last);
     let bytes = parts.memory;
     memory_bytes(file, bytes, memory);
     let stack = parts.cells;
@@ -63,8 +66,6 @@ pub(crate) fn image(file: &[u8], parts: Parts, memory: &mut [u8]) -> Loaded
     let mut machine = Machine::fresh();
     machine.cells = placed;
     machine.p = stack.count;
-    let last = parts.budget;
-    let budget = sections::budget_in(file, last);
     Loaded {
         verdict: Verdict::Good,
         machine,
