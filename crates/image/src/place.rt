@@ -51,8 +51,8 @@ fn cells(file: &[u8], part: Part) -> [u32; Machine::CELLS]
     cells
 }
 
-// The file is known to be good before anything is placed. The budget comes first, since a branch after the machine is made
-// would have the compiler copy it.
+// The file is known to be good before anything is placed. The budget is read before memory is written and the machine made:
+// read later, it would be a number that the compiler does not know to be judged, and a branch around a machine (docs/SPEED.md).
 pub(crate) fn image(file: &[u8], parts: Parts, memory: &mut [u8]) -> Loaded
     requires { ⌜ GoodFile (now file) parts × (length (now memory) ≡ memoryLength) ⌝ }
     ensures { λ r. ⌜ (now (memory .exit) ≡ padded memoryLength (imageIn (now (file .entry)) parts .memory)) × (handed r ≡ loadedFrom (imageIn (now (file .entry)) parts)) ⌝ }
