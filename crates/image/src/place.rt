@@ -51,11 +51,14 @@ fn cells(file: &[u8], span: Span) -> [u32; Machine::CELLS]
     cells
 }
 
-// The file is known to be good before anything is placed.
+// The file is known to be good before anything is placed. The budget is read before memory is written and the machine made:
+// read later, it would be a number that the compiler does not know to be judged, and a branch around a machine (docs/SPEED.md).
 pub(crate) fn image(file: &[u8], spans: Spans, memory: &mut [u8]) -> Loaded
     requires { ⌜ GoodFile (now file) spans × (length (now memory) ≡ memoryLength) ⌝ }
     ensures { λ r. ⌜ (now (memory .exit) ≡ padded memoryLength (imageIn (now (file .entry)) spans .memory)) × (returned r ≡ loadedFrom (imageIn (now (file .entry)) spans)) ⌝ }
 {
+    let last = spans.budget;
+    let budget = sections::budget_in(file, last);
     let bytes = spans.memory;
     memory_bytes(file, bytes, memory);
     let stack = spans.cells;
@@ -63,8 +66,6 @@ pub(crate) fn image(file: &[u8], spans: Spans, memory: &mut [u8]) -> Loaded
     let mut machine = Machine::fresh();
     machine.cells = placed;
     machine.p = stack.count;
-    let last = spans.budget;
-    let budget = sections::budget_in(file, last);
     Loaded {
         verdict: Verdict::Good,
         machine,

@@ -13,7 +13,7 @@ use glidecotton_rust::model::state::MEMORY;
 use glidecotton_rust::speed_images::{speed_images, SpeedImage};
 
 /// A ratio above this is marked, and one of instructions fails.
-const LIMIT: f64 = 1.5;
+const LIMIT: f64 = 1.15;
 /// Rounds of timing, of which the quickest counts.
 const ROUNDS: usize = 15;
 /// Callgrind counts a string instruction once for each byte it moves; this keeps the C library from using them.
