@@ -1,11 +1,9 @@
--- Each field is put where the one before it ends.
-use mathlib.Core.Path.{_≡_}
-use native.Mathlib.Omega.{arith}
-use borrow.Author.Needs.{needs}
-use lib.ListN.{length}
+-- Made by .ci/named from put_frame.rules: 0515cf5720198b98 d5462854fd607280
+-- Each field of a frame is put where the one before it ends.
 use Rattle.links.specs.Depths.{localsCount}
 use Rattle.state.specs.Layout.{frameFields}
 use Rattle.state.proofs.Putting.{put-counted, none, _then_, _first_, fields-put}
+use borrow.Author.Needs.{needs}
 use Rattle.state.proofs.writing.put_frame.Statement.{statement}
 use Rattle.state.proofs.writing.put_frame.Tie as tie
 
@@ -13,9 +11,7 @@ slice-aggregate-put-row : tie.Need-slice-aggregate-put-row
 slice-aggregate-put-row c = search needs
 
 put-row-requires : tie.Need-put-row-requires
-put-row-requires c κs =
-    let long : localsCount ≡ length (c .before .before .before .before .args .frame .locals) = slice-aggregate-put-row c in
-    omega arith
+put-row-requires c κs = search (needs, (slice-aggregate-put-row c))
 
 add-put-pointer : tie.Need-add-put-pointer
 add-put-pointer c = search needs
@@ -33,16 +29,7 @@ same-length : tie.Need-same-length
 same-length c = search needs
 
 returns : tie.Need-returns
-returns c =
-    let address = c .before .before in
-    let r = address .before .before .before .before in
-    let locals = r .before .before .before .before in
-    let a = locals .before .before .before .before .before .args in
-    fields-put frameFields (a .frame) (a .state .now) (a .at) _
-    (put-counted localsCount (a .frame .locals) (slice-aggregate-put-row (locals .before)) (locals .put-row .ensures)
-    first r .put-pointer .ensures
-    then address .put-cell .ensures
-    then none)
+returns c = fields-put frameFields (c .before .before .before .before .before .before .before .before .before .before .before .before .before .before .before .args .frame) (c .before .before .before .before .before .before .before .before .before .before .before .before .before .before .before .args .state .now) (c .before .before .before .before .before .before .before .before .before .before .before .before .before .before .before .args .at) _ (put-counted localsCount (c .before .before .before .before .before .before .before .before .before .before .before .before .before .before .before .args .frame .locals) (slice-aggregate-put-row (c .before .before .before .before .before .before .before .before .before .before .before)) (c .before .before .before .before .before .before .before .before .before .before .put-row .ensures) first c .before .before .before .before .before .before .put-pointer .ensures then c .before .before .put-cell .ensures then none)
 
 pub put-frame-spec : {M : Type 1} → statement M
 put-frame-spec =
