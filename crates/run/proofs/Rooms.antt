@@ -11,7 +11,7 @@ use Rattle.plain.specs.Answer.{Answer, refuses, gives}
 use Rattle.plain.specs.Choice.{pick, both}
 use Rattle.links.specs.Depths.{cellsDepth, returnsDepth, subroutinesDepth, exceptionsDepth, localsCount, levelCells}
 use Rattle.machine.specs.Limits.{memoryLength}
-use Rattle.machine.specs.Memory.{size, isLong, stands, firstLocal, lastLocal, firstCell, lastCell, placeOf}
+use Rattle.machine.specs.Memory.{size, isLong, isListedCell, firstLocal, lastLocal, firstCell, lastCell, placeOf}
 use Rattle.machine.specs.declared.Width.{Width}
 use Rattle.machine.specs.declared.Place.the-variants.{Memory, Local, Cell, Nowhere}
 use Rattle.run.specs.Accesses.{spotOf, reachOf}
@@ -97,10 +97,10 @@ module _ (w : Width) (a : ℕ) where
   place-within : (at : Spot) → spotOf (placeOf w a) ≡ gives at → Within w at
   unfolding placeOf Within
   place-within at e =
-      go (leb (a + size w) memoryLength) refl (both (isLong w) (stands firstLocal lastLocal a)) refl (both (isLong w) (stands firstCell lastCell a)) refl at e
+      go (leb (a + size w) memoryLength) refl (both (isLong w) (isListedCell firstLocal lastLocal a)) refl (both (isLong w) (isListedCell firstCell lastCell a)) refl at e
     where
-      go : (b : Bool) → leb (a + size w) memoryLength ≡ b → (d : Bool) → both (isLong w) (stands firstLocal lastLocal a) ≡ d →
-          (f : Bool) → both (isLong w) (stands firstCell lastCell a) ≡ f → (at : Spot) →
+      go : (b : Bool) → leb (a + size w) memoryLength ≡ b → (d : Bool) → both (isLong w) (isListedCell firstLocal lastLocal a) ≡ d →
+          (f : Bool) → both (isLong w) (isListedCell firstCell lastCell a) ≡ f → (at : Spot) →
           spotOf (pick b (Memory a) (pick d (Local ((a - firstLocal) / 4)) (pick f (Cell ((a - firstCell) / 4)) Nowhere))) ≡ gives at → Within w at
       go true h d hd f hf (spot.Memory k) e = let same : a ≡ k = cc in omega (arith, leb-true (a + size w) memoryLength h)
       go true h d hd f hf (spot.Local k) e = apart cc

@@ -7,7 +7,7 @@ ghost use Prim.Native.Nat.{_+_, _-_, _/_, _<_, _≤_, _^_};
 ghost use lib.Dec.{leb};
 ghost use Rattle.plain.specs.Choice.{pick};
 ghost use Rattle.machine.specs.Limits.{memoryLength};
-ghost use Rattle.machine.specs.Memory.{placeOf, stands, firstLocal, lastLocal, firstCell, lastCell};
+ghost use Rattle.machine.specs.Memory.{placeOf, isListedCell, firstLocal, lastLocal, firstCell, lastCell};
 ghost use Rattle.machine.specs.declared.Place.the-variants.{Memory, Local, Cell, Nowhere};
 ghost use Rattle.machine.specs.declared.Width.the-variants.{Long};
 
@@ -22,7 +22,7 @@ fn in_memory(at: usize, size: usize) -> Place
 }
 
 fn cell_at(at: usize) -> Place
-    ensures { λ r. ⌜ r ≡ pick (stands firstLocal lastLocal at) (Local ((at - firstLocal) / 4)) (pick (stands firstCell lastCell at) (Cell ((at - firstCell) / 4)) Nowhere) ⌝ }
+    ensures { λ r. ⌜ r ≡ pick (isListedCell firstLocal lastLocal at) (Local ((at - firstLocal) / 4)) (pick (isListedCell firstCell lastCell at) (Cell ((at - firstCell) / 4)) Nowhere) ⌝ }
 {
     if at < 0x10000 {
         return Place::Nowhere;

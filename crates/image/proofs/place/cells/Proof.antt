@@ -1,10 +1,10 @@
--- Made by .ci/named from cells.rules: 0abb6b628ba1a05e 9fa97da936580ff7
--- Before turn i the array is the first i cells and zeros above them.
+-- Made by .ci/named from cells.rules: ec3e9423a7526a10 e77b9cfe4ad57b29
+-- Before pass i the array is the first i cells and zeros above them.
 use mathlib.Core.Path.{_≡_, refl, ap, _∙_}
 use Prim.Native.Nat.{ℕ, _≤_, _-_}
 use native.Mathlib.Omega.{arith}
 use Rattle.links.specs.Depths.{cellsDepth}
-use Rattle.numbers.specs.Rows.{rowAt}
+use Rattle.numbers.specs.Lists.{listAt}
 use Rattle.plain.specs.Zeros.{padded}
 use Rattle.image.specs.Format.{cellWidth}
 use Rattle.image.proofs.Placing.{value-placed}
@@ -13,13 +13,13 @@ use Rattle.image.proofs.place.cells.Statement.{statement}
 use Rattle.image.proofs.place.cells.Tie as tie
 
 abbrev Inv-loop : tie.InvT-loop
-Inv-loop file from count cells₀ i₀ cells i = (i ≤ count) × (cells ≡ padded cellsDepth (rowAt cellWidth i file from))
+Inv-loop file from count cells₀ i₀ cells i = (i ≤ count) × (cells ≡ padded cellsDepth (listAt cellWidth i file from))
 
 abbrev μ-loop : tie.MeasureT-loop
 μ-loop file from count cells₀ i₀ cells i = count - i
 
 loop-holds : tie.Need-loop-holds Inv-loop μ-loop
-unfolding padded rowAt
+unfolding padded listAt
 loop-holds c = (search needs, refl)
 
 mul-cell-at : tie.Need-mul-cell-at Inv-loop μ-loop
@@ -44,10 +44,10 @@ loop-less : tie.Need-loop-less Inv-loop μ-loop
 loop-less c = search needs
 
 loop-again : tie.Need-loop-again Inv-loop μ-loop
-loop-again c = (omega arith, value-placed cellWidth cellsDepth (c .before .before .before .before .args .file .now) (c .before .before .loop .cells) (c .before .before .before .before .args .part .from) (c .before .before .loop .i) (c .cell-at .result) (omega arith) (c .cell-at .ensures) (c .before .before .loop .inv .1))
+loop-again c = (omega arith, value-placed cellWidth cellsDepth (c .before .before .before .before .args .file .now) (c .before .before .loop .cells) (c .before .before .before .before .args .span .from) (c .before .before .loop .i) (c .cell-at .result) (omega arith) (c .cell-at .ensures) (c .before .before .loop .inv .1))
 
 returns : tie.Need-returns Inv-loop μ-loop
-returns c = c .before .loop .inv .1 ∙ ap (λ (n : ℕ). padded cellsDepth (rowAt cellWidth n (c .before .before .before .args .file .now) (c .before .before .before .args .part .from))) (omega arith)
+returns c = c .before .loop .inv .1 ∙ ap (λ (n : ℕ). padded cellsDepth (listAt cellWidth n (c .before .before .before .args .file .now) (c .before .before .before .args .span .from))) (omega arith)
 
 pub cells-spec : {M : Type 1} → statement M
 cells-spec =

@@ -1,5 +1,5 @@
--- Made by .ci/named from put_cells.rules: 94563fbc558fc714 8aa356a7c9680e47
--- Before turn i the text has grown by the lines of the first i cells.
+-- Made by .ci/named from put_cells.rules: 0ddf3537b116cd6e ec021402055805fb
+-- Before pass i the text has grown by the lines of the first i cells.
 use Prim.Native.Nat.{_-_}
 use native.Mathlib.Omega.{arith}
 use Rattle.report.specs.Text.{cellLine}

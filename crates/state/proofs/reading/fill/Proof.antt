@@ -1,4 +1,4 @@
--- Made by .ci/named from fill.rules: a8a66d79f3005744 466cca819d4f47fc
+-- Made by .ci/named from fill.rules: 213b7c015594bc61 466cca819d4f47fc
 -- Before pass i the first i cells stand in the state.
 use mathlib.Core.Path.{refl}
 use Prim.Native.Nat.{_-_}

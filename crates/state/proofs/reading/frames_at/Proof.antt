@@ -1,4 +1,4 @@
--- Made by .ci/named from frames_at.rules: ec7be4fed47f5b05 9484ad04a85ad45c
+-- Made by .ci/named from frames_at.rules: d5728d12fedd07f7 9484ad04a85ad45c
 -- Before pass i the first i frames stand in the state.
 use mathlib.Core.Path.{ap, _∙_}
 use Prim.Native.Nat.{_-_}

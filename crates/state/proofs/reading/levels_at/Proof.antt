@@ -1,4 +1,4 @@
--- Made by .ci/named from levels_at.rules: 5ae9dc545f8640b6 79d6989faf64b713
+-- Made by .ci/named from levels_at.rules: cd9c877a065ef67b 79d6989faf64b713
 -- Before pass i the first i levels stand in the state.
 use mathlib.Core.Path.{ap, _∙_}
 use Prim.Native.Nat.{_-_}

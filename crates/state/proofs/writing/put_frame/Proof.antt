@@ -1,4 +1,4 @@
--- Made by .ci/named from put_frame.rules: 0515cf5720198b98 d5462854fd607280
+-- Made by .ci/named from put_frame.rules: 125fc02b08ec9719 4f39a786c530241e
 -- Each field of a frame is put where the one before it ends.
 use Rattle.links.specs.Depths.{localsCount}
 use Rattle.state.specs.Layout.{frameFields}
@@ -7,11 +7,11 @@ use borrow.Author.Needs.{needs}
 use Rattle.state.proofs.writing.put_frame.Statement.{statement}
 use Rattle.state.proofs.writing.put_frame.Tie as tie
 
-slice-aggregate-put-row : tie.Need-slice-aggregate-put-row
-slice-aggregate-put-row c = search needs
+slice-aggregate-put-array : tie.Need-slice-aggregate-put-array
+slice-aggregate-put-array c = search needs
 
-put-row-requires : tie.Need-put-row-requires
-put-row-requires c κs = search (needs, (slice-aggregate-put-row c))
+put-array-requires : tie.Need-put-array-requires
+put-array-requires c κs = search (needs, (slice-aggregate-put-array c))
 
 add-put-pointer : tie.Need-add-put-pointer
 add-put-pointer c = search needs
@@ -29,14 +29,14 @@ same-length : tie.Need-same-length
 same-length c = search needs
 
 returns : tie.Need-returns
-returns c = fields-put frameFields (c .before .before .before .before .before .before .before .before .before .before .before .before .before .before .before .args .frame) (c .before .before .before .before .before .before .before .before .before .before .before .before .before .before .before .args .state .now) (c .before .before .before .before .before .before .before .before .before .before .before .before .before .before .before .args .at) _ (put-counted localsCount (c .before .before .before .before .before .before .before .before .before .before .before .before .before .before .before .args .frame .locals) (slice-aggregate-put-row (c .before .before .before .before .before .before .before .before .before .before .before)) (c .before .before .before .before .before .before .before .before .before .before .put-row .ensures) first c .before .before .before .before .before .before .put-pointer .ensures then c .before .before .put-cell .ensures then none)
+returns c = fields-put frameFields (c .before .before .before .before .before .before .before .before .before .before .before .before .before .before .before .args .frame) (c .before .before .before .before .before .before .before .before .before .before .before .before .before .before .before .args .state .now) (c .before .before .before .before .before .before .before .before .before .before .before .before .before .before .before .args .at) _ (put-counted localsCount (c .before .before .before .before .before .before .before .before .before .before .before .before .before .before .before .args .frame .locals) (slice-aggregate-put-array (c .before .before .before .before .before .before .before .before .before .before .before)) (c .before .before .before .before .before .before .before .before .before .before .put-array .ensures) first c .before .before .before .before .before .before .put-pointer .ensures then c .before .before .put-cell .ensures then none)
 
 pub put-frame-spec : {M : Type 1} → statement M
 put-frame-spec =
     tie.close
     (tie.spec
-    slice-aggregate-put-row
-    put-row-requires
+    slice-aggregate-put-array
+    put-array-requires
     add-put-pointer
     put-pointer-requires
     add-put-cell

@@ -1,4 +1,4 @@
--- Made by .ci/named from put_frames.rules: 11ccdd9e28b8fc82 ae11eddc96162fb3
+-- Made by .ci/named from put_frames.rules: 92a3fef4e3c02291 ae11eddc96162fb3
 -- Before pass i the first i frames have been put.
 use Prim.Native.Nat.{_-_}
 use native.Mathlib.Omega.{arith}

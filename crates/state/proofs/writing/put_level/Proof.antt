@@ -1,4 +1,4 @@
--- Made by .ci/named from put_level.rules: 8ea7bce2cd17363b 49b1893915ca3444
+-- Made by .ci/named from put_level.rules: 4da39bd24040a741 55bbc8dd12520224
 -- Each field of an exception level is put where the one before it ends.
 use Rattle.links.specs.Depths.{levelCells}
 use Rattle.state.specs.Layout.{levelFields}
@@ -7,11 +7,11 @@ use borrow.Author.Needs.{needs}
 use Rattle.state.proofs.writing.put_level.Statement.{statement}
 use Rattle.state.proofs.writing.put_level.Tie as tie
 
-slice-aggregate-put-row : tie.Need-slice-aggregate-put-row
-slice-aggregate-put-row c = search needs
+slice-aggregate-put-array : tie.Need-slice-aggregate-put-array
+slice-aggregate-put-array c = search needs
 
-put-row-requires : tie.Need-put-row-requires
-put-row-requires c κs = search (needs, (slice-aggregate-put-row c))
+put-array-requires : tie.Need-put-array-requires
+put-array-requires c κs = search (needs, (slice-aggregate-put-array c))
 
 add-put-pointer : tie.Need-add-put-pointer
 add-put-pointer c = search needs
@@ -35,14 +35,14 @@ same-length : tie.Need-same-length
 same-length c = search needs
 
 returns : tie.Need-returns
-returns c = fields-put levelFields (c .before .before .before .before .before .before .before .before .before .before .before .before .before .before .before .before .before .before .before .args .level) (c .before .before .before .before .before .before .before .before .before .before .before .before .before .before .before .before .before .before .before .args .state .now) (c .before .before .before .before .before .before .before .before .before .before .before .before .before .before .before .before .before .before .before .args .at) _ (put-counted levelCells (c .before .before .before .before .before .before .before .before .before .before .before .before .before .before .before .before .before .before .before .args .level .cells) (slice-aggregate-put-row (c .before .before .before .before .before .before .before .before .before .before .before .before .before .before .before)) (c .before .before .before .before .before .before .before .before .before .before .before .before .before .before .put-row .ensures) first c .before .before .before .before .before .before .before .before .before .before .put-pointer .ensures then c .before .before .before .before .before .before .put-pointer2 .ensures then c .before .before .put-cell .ensures then none)
+returns c = fields-put levelFields (c .before .before .before .before .before .before .before .before .before .before .before .before .before .before .before .before .before .before .before .args .level) (c .before .before .before .before .before .before .before .before .before .before .before .before .before .before .before .before .before .before .before .args .state .now) (c .before .before .before .before .before .before .before .before .before .before .before .before .before .before .before .before .before .before .before .args .at) _ (put-counted levelCells (c .before .before .before .before .before .before .before .before .before .before .before .before .before .before .before .before .before .before .before .args .level .cells) (slice-aggregate-put-array (c .before .before .before .before .before .before .before .before .before .before .before .before .before .before .before)) (c .before .before .before .before .before .before .before .before .before .before .before .before .before .before .put-array .ensures) first c .before .before .before .before .before .before .before .before .before .before .put-pointer .ensures then c .before .before .before .before .before .before .put-pointer2 .ensures then c .before .before .put-cell .ensures then none)
 
 pub put-level-spec : {M : Type 1} → statement M
 put-level-spec =
     tie.close
     (tie.spec
-    slice-aggregate-put-row
-    put-row-requires
+    slice-aggregate-put-array
+    put-array-requires
     add-put-pointer
     put-pointer-requires
     add-put-pointer-2

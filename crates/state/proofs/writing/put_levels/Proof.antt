@@ -1,4 +1,4 @@
--- Made by .ci/named from put_levels.rules: 5de8bd419987d322 8e35e5dfce09a465
+-- Made by .ci/named from put_levels.rules: 48dad7f4d2eee4cb 8e35e5dfce09a465
 -- Before pass i the first i levels have been put.
 use Prim.Native.Nat.{_-_}
 use native.Mathlib.Omega.{arith}

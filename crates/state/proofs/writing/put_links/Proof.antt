@@ -1,4 +1,4 @@
--- Made by .ci/named from put_links.rules: 81a8901f98e8ed6e 4e2add8638983161
+-- Made by .ci/named from put_links.rules: 749e4b44a019f742 40435f3da0f4b420
 -- Each field of the linked stacks is put where the one before it ends.
 use Rattle.links.specs.Depths.{returnsDepth}
 use Rattle.state.specs.Layout.{linksFields}
@@ -7,11 +7,11 @@ use borrow.Author.Needs.{needs}
 use Rattle.state.proofs.writing.put_links.Statement.{statement}
 use Rattle.state.proofs.writing.put_links.Tie as tie
 
-slice-aggregate-put-row : tie.Need-slice-aggregate-put-row
-slice-aggregate-put-row c = search needs
+slice-aggregate-put-array : tie.Need-slice-aggregate-put-array
+slice-aggregate-put-array c = search needs
 
-put-row-requires : tie.Need-put-row-requires
-put-row-requires c κs = search (needs, (slice-aggregate-put-row c))
+put-array-requires : tie.Need-put-array-requires
+put-array-requires c κs = search (needs, (slice-aggregate-put-array c))
 
 add-put-pointer : tie.Need-add-put-pointer
 add-put-pointer c = search needs
@@ -47,14 +47,14 @@ same-length : tie.Need-same-length
 same-length c = search needs
 
 returns : tie.Need-returns
-returns c = fields-put linksFields (c .before .before .before .before .before .before .before .before .before .before .before .before .before .before .before .before .before .before .before .before .before .before .before .before .before .before .before .before .before .args .links) (c .before .before .before .before .before .before .before .before .before .before .before .before .before .before .before .before .before .before .before .before .before .before .before .before .before .before .before .before .before .args .state .now) (c .before .before .before .before .before .before .before .before .before .before .before .before .before .before .before .before .before .before .before .before .before .before .before .before .before .before .before .before .before .args .at) _ (put-counted returnsDepth (c .before .before .before .before .before .before .before .before .before .before .before .before .before .before .before .before .before .before .before .before .before .before .before .before .before .before .before .before .before .args .links .returns) (slice-aggregate-put-row (c .before .before .before .before .before .before .before .before .before .before .before .before .before .before .before .before .before .before .before .before .before .before .before)) (c .before .before .before .before .before .before .before .before .before .before .before .before .before .before .before .before .before .before .before .before .before .before .put-row .ensures) first c .before .before .before .before .before .before .before .before .before .before .before .before .before .before .before .before .before .before .put-pointer .ensures then c .before .before .before .before .before .before .before .before .before .before .before .before .before .before .put-frames .ensures then c .before .before .before .before .before .before .before .before .before .before .put-pointer2 .ensures then c .before .before .before .before .before .before .put-levels .ensures then c .before .before .put-pointer3 .ensures then none)
+returns c = fields-put linksFields (c .before .before .before .before .before .before .before .before .before .before .before .before .before .before .before .before .before .before .before .before .before .before .before .before .before .before .before .before .before .args .links) (c .before .before .before .before .before .before .before .before .before .before .before .before .before .before .before .before .before .before .before .before .before .before .before .before .before .before .before .before .before .args .state .now) (c .before .before .before .before .before .before .before .before .before .before .before .before .before .before .before .before .before .before .before .before .before .before .before .before .before .before .before .before .before .args .at) _ (put-counted returnsDepth (c .before .before .before .before .before .before .before .before .before .before .before .before .before .before .before .before .before .before .before .before .before .before .before .before .before .before .before .before .before .args .links .returns) (slice-aggregate-put-array (c .before .before .before .before .before .before .before .before .before .before .before .before .before .before .before .before .before .before .before .before .before .before .before)) (c .before .before .before .before .before .before .before .before .before .before .before .before .before .before .before .before .before .before .before .before .before .before .put-array .ensures) first c .before .before .before .before .before .before .before .before .before .before .before .before .before .before .before .before .before .before .put-pointer .ensures then c .before .before .before .before .before .before .before .before .before .before .before .before .before .before .put-frames .ensures then c .before .before .before .before .before .before .before .before .before .before .put-pointer2 .ensures then c .before .before .before .before .before .before .put-levels .ensures then c .before .before .put-pointer3 .ensures then none)
 
 pub put-links-spec : {M : Type 1} → statement M
 put-links-spec =
     tie.close
     (tie.spec
-    slice-aggregate-put-row
-    put-row-requires
+    slice-aggregate-put-array
+    put-array-requires
     add-put-pointer
     put-pointer-requires
     add-put-frames

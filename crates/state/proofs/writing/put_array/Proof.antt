@@ -1,4 +1,4 @@
--- Made by .ci/named from put_row.rules: 05316b3daf93e376 9b6db51e8717249d
+-- Made by .ci/named from put_array.rules: 422d39dee895f102 b7aca4078acb27a7
 -- Before pass i the first i cells have been put.
 use mathlib.Core.Path.{refl}
 use Prim.Native.Nat.{_-_}
@@ -7,8 +7,8 @@ use lib.ListN.{length}
 use Rattle.state.specs.Layout.{cell}
 use Rattle.state.proofs.Putting.{Putting, putting-none, putting-more, putting-all}
 use borrow.Author.Needs.{needs}
-use Rattle.state.proofs.writing.put_row.Statement.{statement}
-use Rattle.state.proofs.writing.put_row.Tie as tie
+use Rattle.state.proofs.writing.put_array.Statement.{statement}
+use Rattle.state.proofs.writing.put_array.Tie as tie
 
 abbrev Inv-loop : tie.InvT-loop
 Inv-loop state₀ from cells i₀ state i = Putting cell state₀ from (length cells) cells state i
@@ -49,8 +49,8 @@ same-length c = c .before .loop .inv .done .as-long
 returns : tie.Need-returns Inv-loop μ-loop
 returns c = putting-all cell (c .before .before .before .before .args .state .now) (c .before .before .before .before .args .from) (length (c .before .before .before .before .args .cells .now)) (c .before .before .before .before .args .cells .now) (c .before .loop .inv) (omega arith)
 
-pub put-row-spec : {M : Type 1} → statement M
-put-row-spec =
+pub put-array-spec : {M : Type 1} → statement M
+put-array-spec =
     tie.close
     (tie.spec Inv-loop μ-loop
     loop-holds
