@@ -4,7 +4,7 @@ use Prim.Native.Nat.{ℕ, _≤_}
 use Rattle.links.specs.Restored.{Restored}
 use Rattle.machine.specs.Rows.{top, localsInView, cellsInView}
 use Rattle.machine.specs.Step.{done, stepOf}
-use Rattle.demands.specs.History.{World, codeAt, pointerE, Moment, step, History, then, joined, Above, Accepted}
+use Rattle.demands.specs.History.{World, codeAt, pointerE, Moment, step, History, then, joined, StaysAbove, Accepted}
 
 -- from a, through any history, to a CATCH at o that is carried out and leads to w; from there through any history to v with E above
 -- the old E; and then the moment that brings E down, to z
@@ -14,7 +14,7 @@ pub record Loses (a o w v z : World) : Type 0 where
   pub cost : ℕ
   pub carried : stepOf (o .memory) (o .machine) ≡ done (w .memory) (w .machine) cost
   pub between : History w v
-  pub above : Above (pointerE o) between
+  pub above : StaysAbove (pointerE o) between
   pub last : Moment v z
   pub down : pointerE z ≤ pointerE o
 

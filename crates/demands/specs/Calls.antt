@@ -7,7 +7,7 @@ use Rattle.machine.specs.declared.Machine.{Machine}
 use Rattle.state.specs.Layout as layout
 use Rattle.host.specs.Handed.{Handed, Hands, wrong-length, run, handedBack}
 use Rattle.demands.specs.History.{World, History, stepsIn, cyclesIn}
-use Rattle.demands.specs.Sessions.{Given, leftBy, Follows}
+use Rattle.demands.specs.Sessions.{Given, worldAfterRuns, Follows}
 
 -- the bytes of a state carry a machine
 pub record Carries (state : List ℕ) (m : Machine) : Type 0 where
@@ -17,35 +17,35 @@ pub record Carries (state : List ℕ) (m : Machine) : Type 0 where
 -- a call ran the machine, and the bytes that it handed back carry the machine that the run left
 pub record Handled (memory : List ℕ) (budget : ℕ) (m : Machine) (handed : Handed) : Type 0 where
   pub as-run : handed ≡ handedBack (runOf memory m budget)
-  pub carried : Carries (handed .state) (runOf memory m budget .ran .machine)
+  pub bytes-carry : Carries (handed .state) (runOf memory m budget .ran .machine)
 
 -- each call meets the exported function's promise; the host hands the state's bytes on unaltered, with any memory, any budget and
 -- any buffer for the counts
 pub data Calls : List ℕ → List ℕ → Type 0 where
   over : {state : List ℕ} → Calls state state
-  call : {state end : List ℕ} {handed : Handed} (memory : List ℕ) (budget : ℕ) (result : List ℕ) → Hands state memory budget result handed
+  host-call : {state end : List ℕ} {handed : Handed} (memory : List ℕ) (budget : ℕ) (result : List ℕ) → Hands state memory budget result handed
       → Calls (handed .state) end → Calls state end
 
 -- the runs of the calls, with the steps and the cycles that they report, added up; a call with a buffer of another length runs nothing
 abbrev pub runsOf : {state end : List ℕ} → Calls state end → List Given
 runsOf over = []
-runsOf (call memory budget result (wrong-length other) rest) = runsOf rest
-runsOf (call memory budget result (run m all long fits is kept) rest) = record { memory = memory; budget = budget } ∷ runsOf rest
+runsOf (host-call memory budget result (wrong-length other) rest) = runsOf rest
+runsOf (host-call memory budget result (run m all long fits is kept) rest) = record { memory = memory; budget = budget } ∷ runsOf rest
 
 abbrev pub stepsReported : {state end : List ℕ} → Calls state end → ℕ
 stepsReported over = 0
-stepsReported (call memory budget result (wrong-length other) rest) = stepsReported rest
-stepsReported (call memory budget result (run m all long fits is kept) rest) = runOf memory m budget .ran .steps .0 + stepsReported rest
+stepsReported (host-call memory budget result (wrong-length other) rest) = stepsReported rest
+stepsReported (host-call memory budget result (run m all long fits is kept) rest) = runOf memory m budget .ran .steps .0 + stepsReported rest
 
 abbrev pub cyclesReported : {state end : List ℕ} → Calls state end → ℕ
 cyclesReported over = 0
-cyclesReported (call memory budget result (wrong-length other) rest) = cyclesReported rest
-cyclesReported (call memory budget result (run m all long fits is kept) rest) = runOf memory m budget .ran .cycles .0 + cyclesReported rest
+cyclesReported (host-call memory budget result (wrong-length other) rest) = cyclesReported rest
+cyclesReported (host-call memory budget result (run m all long fits is kept) rest) = runOf memory m budget .ran .cycles .0 + cyclesReported rest
 
 -- the history of these runs, from w to a machine that the last bytes carry, with as many steps and cycles as the calls report
 pub record OneHistory {state end : List ℕ} (calls : Calls state end) (w : World) : Type 0 where
-  pub history : History w (leftBy w (runsOf calls))
+  pub history : History w (worldAfterRuns w (runsOf calls))
   pub follows : Follows w (runsOf calls) history
-  pub carried : Carries end (leftBy w (runsOf calls) .machine)
+  pub bytes-carry : Carries end (worldAfterRuns w (runsOf calls) .machine)
   pub steps : stepsIn history ≡ stepsReported calls
   pub cycles : cyclesIn history ≡ cyclesReported calls

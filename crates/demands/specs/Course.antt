@@ -3,7 +3,7 @@ use mathlib.Core.Path.{_≡_}
 use Prim.Native.Nat.{ℕ, _+_, _<_}
 use Rattle.machine.specs.Step.{refused, stepOf}
 use Rattle.machine.specs.Run.{After}
-use Rattle.demands.specs.History.{World, left, History, stepsIn, cyclesIn, Unbroken}
+use Rattle.demands.specs.History.{World, worldAfter, History, stepsIn, cyclesIn, Unbroken}
 
 -- why a run ends that had so many instructions left in its budget and has now reported so many more steps
 pub data Reason (budget steps : ℕ) (a : After) : Type 0 where
@@ -14,7 +14,7 @@ pub data Reason (budget steps : ℕ) (a : After) : Type 0 where
 
 -- a run from w, with n steps and c cycles counted before
 pub record Course (budget : ℕ) (w : World) (n c : ℕ) (a : After) : Type 0 where
-  pub history : History w (left a)
+  pub history : History w (worldAfter a)
   pub unbroken : Unbroken history
   pub steps : a .ran .steps .0 ≡ n + stepsIn history
   pub cycles : a .ran .cycles .0 ≡ c + cyclesIn history

@@ -18,8 +18,8 @@ abbrev pub world : List ℕ → Machine → World
 world memory machine = record { memory = memory; machine = machine }
 
 -- what a run leaves
-abbrev pub left : After → World
-left a = world (a .memory) (a .ran .machine)
+abbrev pub worldAfter : After → World
+worldAfter a = world (a .memory) (a .ran .machine)
 
 -- the code at the program counter, the pointer E, the clock cycles of the instruction at the program counter
 abbrev pub codeAt : World → ℕ
@@ -70,9 +70,9 @@ Resets {w} (step k e) = codeAt w ≡ 0x0C
 Resets (host e) = ⊥
 
 -- E is above n from the first to the last
-abbrev pub Above : ℕ → {w v : World} → History w v → Type 0
-Above n {w} here = n < pointerE w
-Above n {w} (then moment rest) = (n < pointerE w) × Above n rest
+abbrev pub StaysAbove : ℕ → {w v : World} → History w v → Type 0
+StaysAbove n {w} here = n < pointerE w
+StaysAbove n {w} (then moment rest) = (n < pointerE w) × StaysAbove n rest
 
 -- a machine that a run accepts, with a memory of its length and a budget within the limit; its lists are as long as the arrays
 -- that they stand for

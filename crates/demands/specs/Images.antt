@@ -4,18 +4,18 @@ use mathlib.Core.List.{List}
 use Prim.Native.Nat.{ℕ}
 use Rattle.plain.specs.Zeros.{padded}
 use Rattle.machine.specs.Limits.{memoryLength}
-use Rattle.image.specs.Format.{Image, Allowed, spelled}
-use Rattle.image.specs.Loading.{Handed, loadedFrom, refusedWith}
+use Rattle.image.specs.Format.{Image, Spellable, spelled}
+use Rattle.image.specs.Loading.{Returned, loadedFrom, refusedWith}
 
 -- the memory as it was, a fresh machine and budget 0
-pub record Untouched (before after : List ℕ) (handed : Handed) (answer : ℕ) : Type 0 where
+pub record Untouched (before after : List ℕ) (returned : Returned) (answer : ℕ) : Type 0 where
   pub memory : after ≡ before
-  pub refusal : handed ≡ refusedWith answer
+  pub refusal : returned ≡ refusedWith answer
 
 -- an image that spells the file, and is what was read
-pub record Spelled (file after : List ℕ) (handed : Handed) : Type 0 where
+pub record Spelled (file after : List ℕ) (returned : Returned) : Type 0 where
   pub image : Image
-  pub allowed : Allowed image
+  pub spellable : Spellable image
   pub spells : spelled image ≡ file
   pub fills : after ≡ padded memoryLength (image .memory)
-  pub hands : handed ≡ loadedFrom image
+  pub hands : returned ≡ loadedFrom image

@@ -3,7 +3,7 @@ use mathlib.Core.List.{List, [], _∷_}
 use mathlib.Core.Path.{_≡_, refl}
 use Prim.Native.Nat.{ℕ}
 use Rattle.machine.specs.Run.{After, runOf}
-use Rattle.demands.specs.History.{World, world, left, host, History, here, then, joined, stepsIn, cyclesIn, Unbroken}
+use Rattle.demands.specs.History.{World, world, worldAfter, host, History, here, then, joined, stepsIn, cyclesIn, Unbroken}
 
 -- what the host hands in for a run, beside the machine: any memory and any budget
 pub record Given : Type 0 where
@@ -18,13 +18,13 @@ abbrev pub ranBy : World → Given → After
 ranBy w g = runOf (g .memory) (w .machine) (g .budget)
 
 -- what these runs leave, one after another
-abbrev pub leftBy : World → List Given → World
-leftBy w [] = w
-leftBy w (g ∷ gs) = leftBy (left (ranBy w g)) gs
+abbrev pub worldAfterRuns : World → List Given → World
+worldAfterRuns w [] = w
+worldAfterRuns w (g ∷ gs) = worldAfterRuns (worldAfter (ranBy w g)) gs
 
 -- a history of completed instructions alone, from w to what a run left, as many as the run reports and in as many cycles
 pub record RunHistory (w : World) (a : After) : Type 0 where
-  pub history : History w (left a)
+  pub history : History w (worldAfter a)
   pub unbroken : Unbroken history
   pub steps : stepsIn history ≡ a .ran .steps .0
   pub cycles : cyclesIn history ≡ a .ran .cycles .0
@@ -32,10 +32,10 @@ pub record RunHistory (w : World) (a : After) : Type 0 where
 -- a history from w to v that is these runs: for each of them the host's change of memory, then the history of the run
 pub data Follows {v : World} : (w : World) → List Given → History w v → Type 0 where
   none : Follows v [] here
-  next : {w : World} {g : Given} {gs : List Given} {later : History (left (ranBy w g)) v} (now : RunHistory (begun w g) (ranBy w g))
-      → Follows (left (ranBy w g)) gs later → Follows w (g ∷ gs) (then (host refl) (joined (now .history) later))
+  next : {w : World} {g : Given} {gs : List Given} {later : History (worldAfter (ranBy w g)) v} (now : RunHistory (begun w g) (ranBy w g))
+      → Follows (worldAfter (ranBy w g)) gs later → Follows w (g ∷ gs) (then (host refl) (joined (now .history) later))
 
 -- one history of all of them
 pub record SessionHistory (w : World) (runs : List Given) : Type 0 where
-  pub history : History w (leftBy w runs)
+  pub history : History w (worldAfterRuns w runs)
   pub follows : Follows w runs history

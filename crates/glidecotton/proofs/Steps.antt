@@ -5,16 +5,16 @@ use Prim.Native.Nat.{ℕ}
 use borrow.Author.Tests.{eq-eqb, ne-eqb}
 use Rattle.plain.specs.Answer.{refuses}
 use Rattle.machine.specs.Run.{After, runOf}
-use Rattle.image.specs.Loading.{Reading, Read, saysVerdict, handed, otherMemory}
+use Rattle.image.specs.Loading.{Reading, Read, saysVerdict, returned, otherMemory}
 use Rattle.image.specs.declared.Loaded.{Loaded}
 use Rattle.image.specs.declared.Verdict.{Verdict}
 use Rattle.image.specs.declared.Verdict.the-variants.{Good, Refused}
 use Rattle.report.specs.Printing.{Reported, reportOf, refusalOf}
 use Rattle.glidecotton.specs.Bench.{Benched, Benches, benchOf, afterRead, afterRun, with}
 
-module _ (image memory out mid : List ℕ) (loaded : Loaded) (is-read : Read image memory mid (handed loaded)) where
+module _ (image memory out mid : List ℕ) (loaded : Loaded) (is-read : Read image memory mid (returned loaded)) where
   abbrev read : Reading
-  read = record { memory = mid; handed = handed loaded }
+  read = record { memory = mid; returned = returned loaded }
 
   by-verdict : (v : Verdict) → loaded .verdict ≡ v → (done : Benched) → done ≡ afterRead (saysVerdict v) read out → Benches image memory out done
   unfolding benchOf

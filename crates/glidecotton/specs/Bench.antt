@@ -24,14 +24,14 @@ afterRun after out = with (after .memory) (reportOf (after .ran) out)
 
 -- by what the reader says: a good image is run; a memory of another length has no text; any other refusal is printed
 abbrev pub afterRead : Answer (Unit {0}) → Reading → List ℕ → Benched
-afterRead (gives _) read out = afterRun (runOf (read .memory) (read .handed .machine) (read .handed .budget)) out
+afterRead (gives _) read out = afterRun (runOf (read .memory) (read .returned .machine) (read .returned .budget)) out
 afterRead (refuses number) read out = with (read .memory) (pick (eqb number otherMemory) (untouched out) (refusalOf number out))
 
 unfoldable pub benchOf : Reading → List ℕ → Benched
-benchOf read out = afterRead (read .handed .says) read out
+benchOf read out = afterRead (read .returned .says) read out
 
 -- `Benches image memory out done`: the image is read into the memory, and what was read is run and printed
 pub record Benches (image memory out : List ℕ) (done : Benched) : Type 0 where
   pub reading : Reading
-  pub is-read : Read image memory (reading .memory) (reading .handed)
+  pub is-read : Read image memory (reading .memory) (reading .returned)
   pub comes-to : done ≡ benchOf reading out

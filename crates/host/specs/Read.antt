@@ -10,6 +10,6 @@ use Rattle.host.specs.Handed.{Handed, handedBack}
 -- `RunsRead image memory budget ran`: the image is good, and what is handed back is the run of what it spells
 pub record RunsRead (image memory : List ℕ) (budget : ℕ) (ran : Handed) : Type 0 where
   pub reading : Reading
-  pub is-read : Read image memory (reading .memory) (reading .handed)
-  pub good : reading .handed .says ≡ gives tt
-  pub runs : ran ≡ handedBack (runOf (reading .memory) (reading .handed .machine) budget)
+  pub is-read : Read image memory (reading .memory) (reading .returned)
+  pub good : reading .returned .says ≡ gives tt
+  pub runs : ran ≡ handedBack (runOf (reading .memory) (reading .returned .machine) budget)

@@ -6,56 +6,56 @@ use native.Mathlib.Omega.{arith}
 use lib.ListN.{length}
 use Rattle.plain.specs.Answer.{gives}
 use Rattle.numbers.specs.Laws.Bytes.{Bytes}
-use Rattle.numbers.specs.Laws.Rows.{length-row-at}
+use Rattle.numbers.specs.Laws.Lists.{length-list-at}
 use Rattle.machine.specs.declared.Machine.{Machine}
 use Rattle.machine.specs.State.{freshMachine, machineWith}
 use Rattle.machine.specs.Limits.{memoryLength}
 use Rattle.links.specs.Depths.{cellsDepth}
 use Rattle.plain.specs.Zeros.{padded}
 use Rattle.image.specs.Format.{budgetOf, cellWidth}
-use Rattle.image.specs.Loading.{Handed, Read, wrong-memory, not-spelled, read, loadedFrom, refusedWith, otherMemory}
-use Rattle.image.specs.Judging.{badFile, stands, saysJudged, valuesIn, judgedOf}
+use Rattle.image.specs.Loading.{Returned, Read, wrong-memory, not-spelled, read, loadedFrom, refusedWith, otherMemory}
+use Rattle.image.specs.Judging.{badFile, finds, saysJudged, valuesIn, judgedOf}
 use Rattle.image.specs.Laws.Section.{elements-inside}
-use Rattle.image.specs.Laws.Sound.{GoodFile, imageIn, good-file, image-allowed, image-spells}
+use Rattle.image.specs.Laws.Sound.{GoodFile, imageIn, good-file, image-spellable, image-spells}
 use Rattle.image.specs.Laws.Computed.{none-spells}
 use Rattle.image.specs.declared.Fault.{Fault}
 use Rattle.image.specs.declared.Judged.{Judged}
 use Rattle.image.specs.declared.Section.the-variants.{Memory, Cells, Budget}
-use Rattle.image.specs.declared.Parts.{Parts}
+use Rattle.image.specs.declared.Spans.{Spans}
 use Rattle.image.specs.declared.Judged.the-variants as judged
 
 -- where the sections of a good file lie
-module _ (file : List ℕ) (parts : Parts) (good : GoodFile file parts) where
-  pub memory-lies : (parts .memory .from + parts .memory .count ≤ length file) × (parts .memory .count ≤ memoryLength)
+module _ (file : List ℕ) (spans : Spans) (good : GoodFile file spans) where
+  pub memory-lies : (spans .memory .from + spans .memory .count ≤ length file) × (spans .memory .count ≤ memoryLength)
   memory-lies =
-      let in-file : parts .memory .from + 1 * parts .memory .count ≤ length file = elements-inside file Memory 0 (parts .memory) (good .memory-whole) in
+      let in-file : spans .memory .from + 1 * spans .memory .count ≤ length file = elements-inside file Memory 0 (spans .memory) (good .memory-whole) in
       (omega arith, good .memory-whole .fit)
 
-  pub cells-lie : (parts .cells .from + cellWidth * parts .cells .count ≤ length file) × (parts .cells .count ≤ cellsDepth)
-  cells-lie = (elements-inside file Cells (parts .memory .to) (parts .cells) (good .cells-whole), good .cells-whole .fit)
+  pub cells-lie : (spans .cells .from + cellWidth * spans .cells .count ≤ length file) × (spans .cells .count ≤ cellsDepth)
+  cells-lie = (elements-inside file Cells (spans .memory .to) (spans .cells) (good .cells-whole), good .cells-whole .fit)
 
-  pub budget-lies : parts .budget .from + cellWidth * parts .budget .count ≤ length file
-  budget-lies = elements-inside file Budget (parts .cells .to) (parts .budget) (good .budget-whole)
+  pub budget-lies : spans .budget .from + cellWidth * spans .budget .count ≤ length file
+  budget-lies = elements-inside file Budget (spans .cells .to) (spans .budget) (good .budget-whole)
 
 -- what is placed is the image
-module _ (file : List ℕ) (parts : Parts) where
-  pub memory-placed : (before after : List ℕ) → length before ≡ memoryLength → after ≡ padded (length before) (valuesIn file Memory (parts .memory))
-      → after ≡ padded memoryLength (imageIn file parts .memory)
+module _ (file : List ℕ) (spans : Spans) where
+  pub memory-placed : (before after : List ℕ) → length before ≡ memoryLength → after ≡ padded (length before) (valuesIn file Memory (spans .memory))
+      → after ≡ padded memoryLength (imageIn file spans .memory)
   unfolding imageIn
-  memory-placed before after long e = e ∙ ap (λ (size : ℕ). padded size (valuesIn file Memory (parts .memory))) long
+  memory-placed before after long e = e ∙ ap (λ (size : ℕ). padded size (valuesIn file Memory (spans .memory))) long
 
-  pub machine-placed : (fresh : Machine) (cells : List ℕ) (budget : ℕ) → fresh ≡ freshMachine → cells ≡ padded cellsDepth (valuesIn file Cells (parts .cells))
-      → budget ≡ budgetOf (valuesIn file Budget (parts .budget))
-      → _≡_ {A = Handed}
+  pub machine-placed : (fresh : Machine) (cells : List ℕ) (budget : ℕ) → fresh ≡ freshMachine → cells ≡ padded cellsDepth (valuesIn file Cells (spans .cells))
+      → budget ≡ budgetOf (valuesIn file Budget (spans .budget))
+      → _≡_ {A = Returned}
       (record {
         says = gives tt;
-        machine = record { cells = cells; p = parts .cells .count; links = fresh .links; counter = fresh .counter; flag = fresh .flag };
+        machine = record { cells = cells; p = spans .cells .count; links = fresh .links; counter = fresh .counter; flag = fresh .flag };
         budget = budget;
       })
-      (loadedFrom (imageIn file parts))
+      (loadedFrom (imageIn file spans))
   unfolding imageIn machineWith loadedFrom freshMachine
   machine-placed fresh cells budget f c b =
-      let p : length (valuesIn file Cells (parts .cells)) ≡ parts .cells .count = length-row-at cellWidth (parts .cells .count) file (parts .cells .from) in
+      let p : length (valuesIn file Cells (spans .cells)) ≡ spans .cells .count = length-list-at cellWidth (spans .cells .count) file (spans .cells .from) in
       λ t. record {
         says = gives tt;
         machine = record { cells = c t; p = sym p t; links = f t .links; counter = f t .counter; flag = f t .flag };
@@ -63,18 +63,18 @@ module _ (file : List ℕ) (parts : Parts) where
       }
 
 -- the promise of a good file
-pub good-answer : (file before after : List ℕ) (handed : Handed) (parts : Parts) → Bytes file → length before ≡ memoryLength → judgedOf file ≡ stands parts
-    → after ≡ padded memoryLength (imageIn file parts .memory) → handed ≡ loadedFrom (imageIn file parts) → Read file before after handed
-good-answer file before after handed parts bytes long h m l =
-    let good = good-file file parts h in
-    subst₂ (λ (x : List ℕ) (y : Handed). Read file before x y) (sym m) (sym l)
-    (read (imageIn file parts) long (image-allowed file bytes parts good) (image-spells file bytes parts good))
+pub good-answer : (file before after : List ℕ) (returned : Returned) (spans : Spans) → Bytes file → length before ≡ memoryLength → judgedOf file ≡ finds spans
+    → after ≡ padded memoryLength (imageIn file spans .memory) → returned ≡ loadedFrom (imageIn file spans) → Read file before after returned
+good-answer file before after returned spans bytes long h m l =
+    let good = good-file file spans h in
+    subst₂ (λ (x : List ℕ) (y : Returned). Read file before x y) (sym m) (sym l)
+    (read (imageIn file spans) long (image-spellable file bytes spans good) (image-spells file bytes spans good))
 
 -- and of the two refusals
-pub memory-refused : (file before : List ℕ) (handed : Handed) → (length before ≡ memoryLength → ⊥) → handed ≡ refusedWith otherMemory → Read file before before handed
-memory-refused file before handed other e = subst (λ (h : Handed). Read file before before h) (sym e) (wrong-memory other)
+pub memory-refused : (file before : List ℕ) (returned : Returned) → (length before ≡ memoryLength → ⊥) → returned ≡ refusedWith otherMemory → Read file before before returned
+memory-refused file before returned other e = subst (λ (h : Returned). Read file before before h) (sym e) (wrong-memory other)
 
-pub file-refused : (file before : List ℕ) (handed : Handed) (j : Judged) (fault : Fault) → length before ≡ memoryLength → saysJudged j ≡ judgedOf file
-    → j ≡ judged.Bad fault → handed ≡ refusedWith badFile → Read file before before handed
-file-refused file before handed j fault long is bad e =
-    subst (λ (h : Handed). Read file before before h) (sym e) (not-spelled long (none-spells file badFile fault (sym is ∙ ap saysJudged bad)))
+pub file-refused : (file before : List ℕ) (returned : Returned) (j : Judged) (fault : Fault) → length before ≡ memoryLength → saysJudged j ≡ judgedOf file
+    → j ≡ judged.Bad fault → returned ≡ refusedWith badFile → Read file before before returned
+file-refused file before returned j fault long is bad e =
+    subst (λ (h : Returned). Read file before before h) (sym e) (not-spelled long (none-spells file badFile fault (sym is ∙ ap saysJudged bad)))

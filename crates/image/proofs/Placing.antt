@@ -8,8 +8,8 @@ use native.Mathlib.Omega.{arith}
 use lib.ListN.{length, take, drop, getD, set, replicate, length-append, length-replicate, replicate-append-replicate, drop-of-length-le}
 use lib.Seq.{drop-cons, set-at, take-at, append-snoc, length-take-le}
 use Rattle.numbers.specs.Bytes.{byteAt, numberAt}
-use Rattle.numbers.specs.Rows.{rowAt}
-use Rattle.numbers.specs.Laws.Rows.{length-row-at}
+use Rattle.numbers.specs.Lists.{listAt}
+use Rattle.numbers.specs.Laws.Lists.{length-list-at}
 use Rattle.plain.specs.Zeros.{padded}
 use Rattle.image.specs.Format.{budgetOf, cellWidth}
 
@@ -17,7 +17,7 @@ one-zero-more : (j : ℕ) (ys : List ℕ) → replicate j 0 ++ 0 ∷ ys ≡ repl
 one-zero-more j ys =
     sym (append-snoc (replicate j 0) 0 ys) ∙ ap (λ (l : List ℕ). l ++ ys) (replicate-append-replicate j 1 0)
 
--- a turn's store takes the zeros from a up to i to one more
+-- a pass's store takes the zeros from a up to i to one more
 pub cleared : (d m : List ℕ) (a i : ℕ) → a ≤ i → i < length d → m ≡ take a d ++ (replicate (i - a) 0 ++ drop i d)
     → set m i 0 ≡ take a d ++ (replicate (i + 1 - a) 0 ++ drop (i + 1) d)
 cleared d m a i le in-d e =
@@ -64,32 +64,32 @@ set-padded size xs v h =
     ∙ ap (λ (n : ℕ). (xs ++ (v ∷ [])) ++ replicate n 0) less
 
 -- one more number stands at the end
-pub row-more : (w : ℕ) (file : List ℕ) (at n : ℕ) → rowAt w (suc n) file at ≡ rowAt w n file at ++ (numberAt w file (at + w * n) ∷ [])
-unfolding rowAt
-row-more w file at zero =
+pub list-more : (w : ℕ) (file : List ℕ) (at n : ℕ) → listAt w (suc n) file at ≡ listAt w n file at ++ (numberAt w file (at + w * n) ∷ [])
+unfolding listAt
+list-more w file at zero =
     let none : w * 0 ≡ 0 = mul-zero w in
     let e : at ≡ at + w * 0 = omega arith in
     ap (λ (k : ℕ). numberAt w file k ∷ []) e
-row-more w file at (suc n) =
+list-more w file at (suc n) =
     let more : w * suc n ≡ w * n + w = mul-suc w n in
     let e : at + w + w * n ≡ at + w * suc n = omega arith in
     ap (λ (l : List ℕ). numberAt w file at ∷ l)
-    (row-more w file (at + w) n ∙ ap (λ (k : ℕ). rowAt w n file (at + w) ++ (numberAt w file k ∷ [])) e)
+    (list-more w file (at + w) n ∙ ap (λ (k : ℕ). listAt w n file (at + w) ++ (numberAt w file k ∷ [])) e)
 
-pub value-placed : (w size : ℕ) (file values : List ℕ) (at i v : ℕ) → i < size → v ≡ numberAt w file (at + w * i) → values ≡ padded size (rowAt w i file at)
-    → set values i v ≡ padded size (rowAt w (i + 1) file at)
+pub value-placed : (w size : ℕ) (file values : List ℕ) (at i v : ℕ) → i < size → v ≡ numberAt w file (at + w * i) → values ≡ padded size (listAt w i file at)
+    → set values i v ≡ padded size (listAt w (i + 1) file at)
 value-placed w size file values at i v h e f =
-    let long : length (rowAt w i file at) ≡ i = length-row-at w i file at in
+    let long : length (listAt w i file at) ≡ i = length-list-at w i file at in
     ap (λ (l : List ℕ). set l i v) f
-    ∙ ap (λ (k : ℕ). set (padded size (rowAt w i file at)) k v) (sym long)
-    ∙ set-padded size (rowAt w i file at) v (omega arith)
-    ∙ ap (λ (x : ℕ). padded size (rowAt w i file at ++ (x ∷ []))) e
-    ∙ ap (padded size) (sym (row-more w file at i))
-    ∙ ap (λ (n : ℕ). padded size (rowAt w n file at)) (sym (add-one i))
+    ∙ ap (λ (k : ℕ). set (padded size (listAt w i file at)) k v) (sym long)
+    ∙ set-padded size (listAt w i file at) v (omega arith)
+    ∙ ap (λ (x : ℕ). padded size (listAt w i file at ++ (x ∷ []))) e
+    ∙ ap (padded size) (sym (list-more w file at i))
+    ∙ ap (λ (n : ℕ). padded size (listAt w n file at)) (sym (add-one i))
 
 -- bytes are read as they stand
-pub bytes-read : (file : List ℕ) (at n : ℕ) → at + n ≤ length file → rowAt 1 n file at ≡ take n (drop at file)
-unfolding rowAt
+pub bytes-read : (file : List ℕ) (at n : ℕ) → at + n ≤ length file → listAt 1 n file at ≡ take n (drop at file)
+unfolding listAt
 bytes-read file at zero h = refl
 bytes-read file at (suc n) h =
     ap (λ (l : List ℕ). byteAt file at ∷ l) (bytes-read file (at + 1) n (omega arith))
@@ -97,7 +97,7 @@ bytes-read file at (suc n) h =
     ∙ ap (take (suc n)) (sym (drop-cons file at 0 (omega arith)))
 
 -- the budget of a file that gives one
-pub first-budget : (file : List ℕ) (at n : ℕ) → (n ≡ 0 → ⊥) → budgetOf (rowAt cellWidth n file at) ≡ numberAt cellWidth file at
-unfolding rowAt
+pub first-budget : (file : List ℕ) (at n : ℕ) → (n ≡ 0 → ⊥) → budgetOf (listAt cellWidth n file at) ≡ numberAt cellWidth file at
+unfolding listAt
 first-budget file at zero some = absurd (some refl)
 first-budget file at (suc n) some = refl

@@ -12,7 +12,7 @@ use Rattle.numbers.specs.declared.Found.{Found}
 use Rattle.numbers.specs.declared.Found.the-variants.{Number, Outside}
 use Rattle.machine.specs.Limits.{mostBudget}
 use Rattle.image.specs.Format.{limits, countWidth, budgetOf}
-use Rattle.image.specs.Judging.{badFile, fails, stands, partAt, valuesIn, endJudged, judgedOf}
+use Rattle.image.specs.Judging.{badFile, fails, finds, spanAt, valuesIn, endJudged, judgedOf}
 use Rattle.image.specs.Laws.Met.{saysMet}
 use Rattle.image.specs.Laws.Section.{whole-at, elements-inside}
 use Rattle.image.proofs.Reading.{was-inside, was-outside}
@@ -21,13 +21,13 @@ use Rattle.image.specs.declared.Section.the-variants.{Memory, Cells, Bud
 use Rattle.image.specs.declared.Limits.{Limits}
 use Rattle.image.specs.declared.Fault.{Fault}
 use Rattle.image.specs.declared.Fault.the-variants as fault
-use Rattle.image.specs.declared.Part.{Part}
+use Rattle.image.specs.declared.Span.{Span}
 use Rattle.image.specs.declared.Met.{Met}
 use Rattle.image.specs.declared.Met.the-variants as met
 
 module _ (file : List ℕ) (s : Section) (at : ℕ) (r : Found) (is : saysFound r ≡ readAt countWidth file at) where
-  pub cut-count : r ≡ Outside → fails badFile (fault.Cut s at) ≡ partAt file s at
-  unfolding partAt
+  pub cut-count : r ≡ Outside → fails badFile (fault.Cut s at) ≡ spanAt file s at
+  unfolding spanAt
   cut-count e = simp (lt-leb (at + countWidth) (length file) (was-outside countWidth file at r is e))
 
   module _ (n : ℕ) (e : r ≡ Number n) (l : Limits) (is-l : l ≡ limits s) where
@@ -40,18 +40,18 @@ module _ (file : List ℕ) (s : Section) (at : ℕ) (r : Found) (is : saysFound 
     same : limits s ≡ l
     same = sym is-l
 
-    pub too-few : n < l .fewest → fails badFile (fault.Count s at) ≡ partAt file s at
-    unfolding partAt
+    pub too-few : n < l .fewest → fails badFile (fault.Count s at) ≡ spanAt file s at
+    unfolding spanAt
     too-few h =
         simp (le-leb (at + countWidth) (length file) there, sym counted, same, lt-leb (l .fewest) n h)
 
-    pub too-many : l .fewest ≤ n → l .most < n → fails badFile (fault.Count s at) ≡ partAt file s at
-    unfolding partAt
+    pub too-many : l .fewest ≤ n → l .most < n → fails badFile (fault.Count s at) ≡ spanAt file s at
+    unfolding spanAt
     too-many low h =
         simp (le-leb (at + countWidth) (length file) there, sym counted, same, le-leb (l .fewest) n low, lt-leb n (l .most) h)
 
-    pub cut-elements : l .fewest ≤ n → n ≤ l .most → length file < at + countWidth + l .width * n → fails badFile (fault.Cut s at) ≡ partAt file s at
-    unfolding partAt
+    pub cut-elements : l .fewest ≤ n → n ≤ l .most → length file < at + countWidth + l .width * n → fails badFile (fault.Cut s at) ≡ spanAt file s at
+    unfolding spanAt
     cut-elements low high h =
         simp (
           le-leb (at + countWidth) (length file) there,
@@ -63,8 +63,8 @@ module _ (file : List ℕ) (s : Section) (at : ℕ) (r : Found) (is : saysFound 
         )
 
     pub whole : l .fewest ≤ n → n ≤ l .most → at + countWidth + l .width * n ≤ length file
-        → stands (record { from = at + countWidth; count = n; to = at + countWidth + l .width * n }) ≡ partAt file s at
-    unfolding partAt
+        → finds (record { from = at + countWidth; count = n; to = at + countWidth + l .width * n }) ≡ spanAt file s at
+    unfolding spanAt
     whole low high h =
         simp (
           le-leb (at + countWidth) (length file) there,
@@ -93,25 +93,25 @@ small-product s l n e h =
     omega arith
 
 -- where the elements of a whole section lie
-pub part-inside : (file : List ℕ) (s : Section) (at : ℕ) (m : Met) (part : Part) → saysMet m ≡ partAt file s at → m ≡ met.Whole part
-    → part .from + limits s .width * part .count ≤ length file
-part-inside file s at m part is whole-m = elements-inside file s at part (whole-at file s at part (sym is ∙ ap saysMet whole-m))
+pub span-inside : (file : List ℕ) (s : Section) (at : ℕ) (m : Met) (span : Span) → saysMet m ≡ spanAt file s at → m ≡ met.Good span
+    → span .from + limits s .width * span .count ≤ length file
+span-inside file s at m span is whole-m = elements-inside file s at span (whole-at file s at span (sym is ∙ ap saysMet whole-m))
 
-pub bad-memory : (file : List ℕ) (a : Met) (f : Fault) → saysMet a ≡ partAt file Memory 0 → a ≡ met.Bad f → fails badFile f ≡ judgedOf file
+pub bad-memory : (file : List ℕ) (a : Met) (f : Fault) → saysMet a ≡ spanAt file Memory 0 → a ≡ met.Bad f → fails badFile f ≡ judgedOf file
 unfolding judgedOf
 bad-memory file a f is-a bad = simp (sym is-a ∙ ap saysMet bad)
 
-module _ (file : List ℕ) (a : Met) (memory : Part) (is-a : saysMet a ≡ partAt file Memory 0) (whole-a : a ≡ met.Whole memory) where
-  pub bad-cells : (b : Met) (f : Fault) → saysMet b ≡ partAt file Cells (memory .to) → b ≡ met.Bad f → fails badFile f ≡ judgedOf file
+module _ (file : List ℕ) (a : Met) (memory : Span) (is-a : saysMet a ≡ spanAt file Memory 0) (whole-a : a ≡ met.Good memory) where
+  pub bad-cells : (b : Met) (f : Fault) → saysMet b ≡ spanAt file Cells (memory .to) → b ≡ met.Bad f → fails badFile f ≡ judgedOf file
   unfolding judgedOf
   bad-cells b f is-b bad = simp (sym is-a ∙ ap saysMet whole-a, sym is-b ∙ ap saysMet bad)
 
-  module _ (b : Met) (cells : Part) (is-b : saysMet b ≡ partAt file Cells (memory .to)) (whole-b : b ≡ met.Whole cells) where
-    pub bad-budget : (d : Met) (f : Fault) → saysMet d ≡ partAt file Budget (cells .to) → d ≡ met.Bad f → fails badFile f ≡ judgedOf file
+  module _ (b : Met) (cells : Span) (is-b : saysMet b ≡ spanAt file Cells (memory .to)) (whole-b : b ≡ met.Good cells) where
+    pub bad-budget : (d : Met) (f : Fault) → saysMet d ≡ spanAt file Budget (cells .to) → d ≡ met.Bad f → fails badFile f ≡ judgedOf file
     unfolding judgedOf
     bad-budget d f is-d bad = simp (sym is-a ∙ ap saysMet whole-a, sym is-b ∙ ap saysMet whole-b, sym is-d ∙ ap saysMet bad)
 
-    module _ (d : Met) (budget : Part) (is-d : saysMet d ≡ partAt file Budget (cells .to)) (whole-d : d ≡ met.Whole budget) (v : ℕ) (is-v : v ≡ budgetOf (valuesIn file Budget budget)) where
+    module _ (d : Met) (budget : Span) (is-d : saysMet d ≡ spanAt file Budget (cells .to)) (whole-d : d ≡ met.Good budget) (v : ℕ) (is-v : v ≡ budgetOf (valuesIn file Budget budget)) where
       to-the-end : endJudged file (record { memory = memory; cells = cells; budget = budget }) ≡ judgedOf file
       unfolding judgedOf
       to-the-end = simp (sym is-a ∙ ap saysMet whole-a, sym is-b ∙ ap saysMet whole-b, sym is-d ∙ ap saysMet whole-d)
@@ -124,6 +124,6 @@ module _ (file : List ℕ) (a : Met) (memory : Part) (is-a : saysMet a ≡ partA
       unfolding endJudged
       surplus low h = simp (sym is-v, le-ltb mostBudget v low, lt-ltb (budget .to) (length file) h) at to-the-end
 
-      pub no-fault : v ≤ mostBudget → length file ≤ budget .to → stands (record { memory = memory; cells = cells; budget = budget }) ≡ judgedOf file
+      pub no-fault : v ≤ mostBudget → length file ≤ budget .to → finds (record { memory = memory; cells = cells; budget = budget }) ≡ judgedOf file
       unfolding endJudged
       no-fault low h = simp (sym is-v, le-ltb mostBudget v low, le-ltb (budget .to) (length file) h) at to-the-end

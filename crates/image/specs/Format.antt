@@ -5,7 +5,7 @@ use lib.ListN.{length}
 use Rattle.links.specs.Depths.{cellsDepth}
 use Rattle.machine.specs.Limits.{memoryLength, mostBudget}
 use Rattle.numbers.specs.Bytes.{bytesOf}
-use Rattle.numbers.specs.Rows.{rowOf, Below}
+use Rattle.numbers.specs.Lists.{bytesOfList, AllBelow}
 use Rattle.image.specs.declared.Section.{Section}
 use Rattle.image.specs.declared.Section.the-variants.{Memory, Cells, Budget}
 use Rattle.image.specs.declared.Limits.{Limits}
@@ -36,13 +36,13 @@ longestFile = longestSection Memory + longestSection Cells + longestSection Budg
 
 -- a section stands after its count
 unfoldable pub sectionOf : Section → List ℕ → List ℕ
-sectionOf s values = bytesOf countWidth (length values) ++ rowOf (limits s .width) values
+sectionOf s values = bytesOf countWidth (length values) ++ bytesOfList (limits s .width) values
 
 -- values that a section may hold
 pub record Within (s : Section) (values : List ℕ) : Type 0 where
   pub enough : limits s .fewest ≤ length values
   pub fit : length values ≤ limits s .most
-  pub in-width : Below (2 ^ (8 * limits s .width)) values
+  pub in-width : AllBelow (2 ^ (8 * limits s .width)) values
 
 -- what a file spells: the memory bytes from address 0; the parameter cells, deepest first; a budget, or none
 pub record Image : Type 0 where
@@ -56,7 +56,7 @@ budgetOf [] = defaultBudget
 budgetOf (budget ∷ _) = budget
 
 -- an image that a file may spell
-pub record Allowed (i : Image) : Type 0 where
+pub record Spellable (i : Image) : Type 0 where
   pub memory-within : Within Memory (i .memory)
   pub cells-within : Within Cells (i .cells)
   pub budget-within : Within Budget (i .budget)

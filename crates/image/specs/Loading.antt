@@ -8,7 +8,7 @@ use Rattle.plain.specs.Zeros.{padded}
 use Rattle.machine.specs.Limits.{memoryLength}
 use Rattle.machine.specs.declared.Machine.{Machine}
 use Rattle.machine.specs.State.{freshMachine, machineWith}
-use Rattle.image.specs.Format.{Image, Allowed, budgetOf, spelled}
+use Rattle.image.specs.Format.{Image, Spellable, budgetOf, spelled}
 use Rattle.image.specs.Judging.{badFile}
 use Rattle.image.specs.declared.Loaded.{Loaded}
 use Rattle.image.specs.declared.Verdict.{Verdict}
@@ -24,30 +24,30 @@ saysVerdict Good = gives tt
 saysVerdict (Refused number) = refuses number
 
 -- what the reader returns: what it says, and the machine and the budget beside it
-pub record Handed : Type 0 where
+pub record Returned : Type 0 where
   pub says : Answer (Unit {0})
   pub machine : Machine
   pub budget : ℕ
 
-abbrev pub handed : Loaded → Handed
-handed loaded = record { says = saysVerdict (loaded .verdict); machine = loaded .machine; budget = loaded .budget }
+abbrev pub returned : Loaded → Returned
+returned loaded = record { says = saysVerdict (loaded .verdict); machine = loaded .machine; budget = loaded .budget }
 
 -- what a call of the reader leaves: the memory, and what it returned
 pub record Reading : Type 0 where
   pub memory : List ℕ
-  pub handed : Handed
+  pub returned : Returned
 
 -- with every refusal a fresh machine and budget 0
-unfoldable pub refusedWith : ℕ → Handed
+unfoldable pub refusedWith : ℕ → Returned
 refusedWith answer = record { says = refuses answer; machine = freshMachine; budget = 0 }
 
 -- the machine and the budget that an image spells
-unfoldable pub loadedFrom : Image → Handed
+unfoldable pub loadedFrom : Image → Returned
 loadedFrom i = record { says = gives tt; machine = machineWith (i .cells); budget = budgetOf (i .budget) }
 
--- `Read file before after handed`: a memory of another length is 2, a file that spells no image is 14, and both leave it as it was;
+-- `Read file before after returned`: a memory of another length is 2, a file that spells no image is 14, and both leave it as it was;
 -- a file that spells an image fills it
-pub data Read (file before : List ℕ) : List ℕ → Handed → Type 0 where
+pub data Read (file before : List ℕ) : List ℕ → Returned → Type 0 where
   wrong-memory : (length before ≡ memoryLength → ⊥) → Read file before before (refusedWith otherMemory)
-  not-spelled : length before ≡ memoryLength → ((i : Image) → Allowed i → spelled i ≡ file → ⊥) → Read file before before (refusedWith badFile)
-  read : (i : Image) → length before ≡ memoryLength → Allowed i → spelled i ≡ file → Read file before (padded memoryLength (i .memory)) (loadedFrom i)
+  not-spelled : length before ≡ memoryLength → ((i : Image) → Spellable i → spelled i ≡ file → ⊥) → Read file before before (refusedWith badFile)
+  read : (i : Image) → length before ≡ memoryLength → Spellable i → spelled i ≡ file → Read file before (padded memoryLength (i .memory)) (loadedFrom i)

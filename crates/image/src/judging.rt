@@ -2,8 +2,8 @@
 use crate::Fault;
 use crate::Judged;
 use crate::Met;
-use crate::Parts;
 use crate::Section;
+use crate::Spans;
 use crate::sections;
 use machine::Machine;
 ghost use mathlib.Core.Path.{_≡_};
@@ -13,17 +13,17 @@ ghost use Rattle.image.specs.Judging.{saysJudged, judgedOf, Judges};
 fn from_the_front(file: &[u8]) -> Judged
     ensures { λ r. ⌜ saysJudged r ≡ judgedOf (now (file .entry)) ⌝ }
 {
-    let memory = match sections::part_at(file, Section::Memory, 0) {
+    let memory = match sections::span_at(file, Section::Memory, 0) {
         Met::Bad(fault) => return Judged::Bad(fault),
-        Met::Whole(part) => part,
+        Met::Good(span) => span,
     };
-    let cells = match sections::part_at(file, Section::Cells, memory.to) {
+    let cells = match sections::span_at(file, Section::Cells, memory.to) {
         Met::Bad(fault) => return Judged::Bad(fault),
-        Met::Whole(part) => part,
+        Met::Good(span) => span,
     };
-    let budget = match sections::part_at(file, Section::Budget, cells.to) {
+    let budget = match sections::span_at(file, Section::Budget, cells.to) {
         Met::Bad(fault) => return Judged::Bad(fault),
-        Met::Whole(part) => part,
+        Met::Good(span) => span,
     };
     if Machine::BUDGET < sections::budget_in(file, budget) {
         return Judged::Bad(Fault::Budget(budget.from));
@@ -31,7 +31,7 @@ fn from_the_front(file: &[u8]) -> Judged
     if budget.to < file.len() {
         return Judged::Bad(Fault::Surplus(budget.to));
     }
-    Judged::Good(Parts {
+    Judged::Good(Spans {
         memory,
         cells,
         budget,

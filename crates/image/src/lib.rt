@@ -9,7 +9,7 @@ pub use sections::LONGEST_FILE;
 pub use sections::limits_of;
 pub use sections::longest_file;
 ghost use mathlib.Core.Path.{_≡_};
-ghost use Rattle.image.specs.Loading.{Read, refusedWith, handed};
+ghost use Rattle.image.specs.Loading.{Read, refusedWith, returned};
 
 // The sections of a file, in their order.
 pub enum Section {
@@ -26,17 +26,17 @@ pub struct Limits {
 }
 
 // The elements of a section: the byte of the file where they begin, how many they are, and the byte after them.
-pub struct Part {
+pub struct Span {
     pub from: usize,
     pub count: usize,
     pub to: usize,
 }
 
 // The elements of each section.
-pub struct Parts {
-    pub memory: Part,
-    pub cells: Part,
-    pub budget: Part,
+pub struct Spans {
+    pub memory: Span,
+    pub cells: Span,
+    pub budget: Span,
 }
 
 // What is wrong with a file, and at which byte of it.
@@ -54,13 +54,13 @@ pub enum Fault {
 // A section: what is wrong with it, or its elements.
 pub(crate) enum Met {
     Bad(Fault),
-    Whole(Part),
+    Good(Span),
 }
 
 // A whole file: what is wrong with it, or the elements of its sections.
 pub enum Judged {
     Bad(Fault),
-    Good(Parts),
+    Good(Spans),
 }
 
 // A good file has no answer number.
@@ -83,7 +83,7 @@ pub const OTHER_MEMORY: u32 = 2;
 pub const BAD_FILE: u32 = 14;
 
 fn refused(number: u32) -> Loaded
-    ensures { λ r. ⌜ handed r ≡ refusedWith number ⌝ }
+    ensures { λ r. ⌜ returned r ≡ refusedWith number ⌝ }
 {
     let machine = Machine::fresh();
     Loaded {
@@ -95,13 +95,13 @@ fn refused(number: u32) -> Loaded
 
 // The whole file is judged before memory is touched.
 pub fn read(file: &[u8], memory: &mut [u8]) -> Loaded
-    ensures { λ r. ⌜ Read (now (file .entry)) (now (memory .entry)) (now (memory .exit)) (handed r) ⌝ }
+    ensures { λ r. ⌜ Read (now (file .entry)) (now (memory .entry)) (now (memory .exit)) (returned r) ⌝ }
 {
     if memory.len() != Machine::MEMORY {
         return refused(OTHER_MEMORY);
     }
-    let Judged::Good(parts) = judge(file) else {
+    let Judged::Good(spans) = judge(file) else {
         return refused(BAD_FILE);
     };
-    place::image(file, parts, memory)
+    place::image(file, spans, memory)
 }

@@ -1,8 +1,8 @@
 // Places what a good file spells.
 use crate::Loaded;
-use crate::Part;
-use crate::Parts;
 use crate::Section;
+use crate::Span;
+use crate::Spans;
 use crate::Verdict;
 use crate::sections;
 use machine::Machine;
@@ -13,17 +13,17 @@ ghost use Rattle.plain.specs.Zeros.{padded};
 ghost use Rattle.machine.specs.Limits.{memoryLength};
 ghost use Rattle.links.specs.Depths.{cellsDepth};
 ghost use Rattle.image.specs.Format.{cellWidth};
-ghost use Rattle.image.specs.Loading.{handed, loadedFrom};
+ghost use Rattle.image.specs.Loading.{returned, loadedFrom};
 ghost use Rattle.image.specs.Judging.{valuesIn};
 ghost use Rattle.image.specs.Laws.Sound.{GoodFile, imageIn};
 
 // One pass: the file's memory bytes, then zeros.
-fn memory_bytes(file: &[u8], part: Part, memory: &mut [u8])
-    requires { ⌜ (part .from + part .count ≤ length (now file)) × (part .count ≤ length (now memory)) ⌝ }
-    ensures { λ _. ⌜ now (memory .exit) ≡ padded (length (now (memory .entry))) (valuesIn (now (file .entry)) Section.Memory part) ⌝ }
+fn memory_bytes(file: &[u8], span: Span, memory: &mut [u8])
+    requires { ⌜ (span .from + span .count ≤ length (now file)) × (span .count ≤ length (now memory)) ⌝ }
+    ensures { λ _. ⌜ now (memory .exit) ≡ padded (length (now (memory .entry))) (valuesIn (now (file .entry)) Section.Memory span) ⌝ }
 {
-    let from = part.from;
-    let count = part.count;
+    let from = span.from;
+    let count = span.count;
     let mut i = 0;
     while i < count {
         memory[i] = file[from + i];
@@ -36,12 +36,12 @@ fn memory_bytes(file: &[u8], part: Part, memory: &mut [u8])
 }
 
 // The cells, and zeros above them.
-fn cells(file: &[u8], part: Part) -> [u32; Machine::CELLS]
-    requires { ⌜ (part .from + cellWidth * part .count ≤ length (now file)) × (part .count ≤ cellsDepth) ⌝ }
-    ensures { λ r. ⌜ r ≡ padded cellsDepth (valuesIn (now (file .entry)) Section.Cells part) ⌝ }
+fn cells(file: &[u8], span: Span) -> [u32; Machine::CELLS]
+    requires { ⌜ (span .from + cellWidth * span .count ≤ length (now file)) × (span .count ≤ cellsDepth) ⌝ }
+    ensures { λ r. ⌜ r ≡ padded cellsDepth (valuesIn (now (file .entry)) Section.Cells span) ⌝ }
 {
-    let from = part.from;
-    let count = part.count;
+    let from = span.from;
+    let count = span.count;
     let mut cells = [0u32; Machine::CELLS];
     let mut i = 0;
     while i < count {
@@ -52,18 +52,18 @@ fn cells(file: &[u8], part: Part) -> [u32; Machine::CELLS]
 }
 
 // The file is known to be good before anything is placed.
-pub(crate) fn image(file: &[u8], parts: Parts, memory: &mut [u8]) -> Loaded
-    requires { ⌜ GoodFile (now file) parts × (length (now memory) ≡ memoryLength) ⌝ }
-    ensures { λ r. ⌜ (now (memory .exit) ≡ padded memoryLength (imageIn (now (file .entry)) parts .memory)) × (handed r ≡ loadedFrom (imageIn (now (file .entry)) parts)) ⌝ }
+pub(crate) fn image(file: &[u8], spans: Spans, memory: &mut [u8]) -> Loaded
+    requires { ⌜ GoodFile (now file) spans × (length (now memory) ≡ memoryLength) ⌝ }
+    ensures { λ r. ⌜ (now (memory .exit) ≡ padded memoryLength (imageIn (now (file .entry)) spans .memory)) × (returned r ≡ loadedFrom (imageIn (now (file .entry)) spans)) ⌝ }
 {
-    let bytes = parts.memory;
+    let bytes = spans.memory;
     memory_bytes(file, bytes, memory);
-    let stack = parts.cells;
+    let stack = spans.cells;
     let placed = cells(file, stack);
     let mut machine = Machine::fresh();
     machine.cells = placed;
     machine.p = stack.count;
-    let last = parts.budget;
+    let last = spans.budget;
     let budget = sections::budget_in(file, last);
     Loaded {
         verdict: Verdict::Good,

@@ -2,8 +2,8 @@
 use crate::Fault;
 use crate::Limits;
 use crate::Met;
-use crate::Part;
 use crate::Section;
+use crate::Span;
 use machine::Machine;
 use numbers::Found;
 ghost use mathlib.Core.Path.{_≡_};
@@ -11,7 +11,7 @@ ghost use Prim.Native.Nat.{_+_, _*_, _≤_};
 ghost use lib.ListN.{length};
 ghost use Rattle.numbers.specs.Bytes.{numberAt};
 ghost use Rattle.image.specs.Format.{limits, cellWidth, budgetOf, longestFile};
-ghost use Rattle.image.specs.Judging.{partAt, valuesIn};
+ghost use Rattle.image.specs.Judging.{spanAt, valuesIn};
 ghost use Rattle.image.specs.Laws.Met.{saysMet};
 
 // The budget of a file that gives none.
@@ -61,8 +61,8 @@ pub fn limits_of(section: Section) -> Limits
 }
 
 // A count is tested before a product is formed with it, so that none can wrap.
-pub(crate) fn part_at(file: &[u8], section: Section, at: usize) -> Met
-    ensures { λ r. ⌜ saysMet r ≡ partAt (now (file .entry)) section at ⌝ }
+pub(crate) fn span_at(file: &[u8], section: Section, at: usize) -> Met
+    ensures { λ r. ⌜ saysMet r ≡ spanAt (now (file .entry)) section at ⌝ }
 {
     let Found::Number(number) = numbers::read_four(file, at) else {
         return Met::Bad(Fault::Cut(section, at));
@@ -80,7 +80,7 @@ pub(crate) fn part_at(file: &[u8], section: Section, at: usize) -> Met
     if file.len() < to {
         return Met::Bad(Fault::Cut(section, at));
     }
-    Met::Whole(Part { from, count, to })
+    Met::Good(Span { from, count, to })
 }
 
 // The number at a place that is known to lie inside.
@@ -95,12 +95,12 @@ pub(crate) fn cell_at(file: &[u8], at: usize) -> u32
 }
 
 // The budget that a file comes to.
-pub(crate) fn budget_in(file: &[u8], part: Part) -> u32
-    requires { ⌜ part .from + cellWidth * part .count ≤ length (now file) ⌝ }
-    ensures { λ r. ⌜ r ≡ budgetOf (valuesIn (now (file .entry)) Section.Budget part) ⌝ }
+pub(crate) fn budget_in(file: &[u8], span: Span) -> u32
+    requires { ⌜ span .from + cellWidth * span .count ≤ length (now file) ⌝ }
+    ensures { λ r. ⌜ r ≡ budgetOf (valuesIn (now (file .entry)) Section.Budget span) ⌝ }
 {
-    if part.count == 0 {
+    if span.count == 0 {
         return DEFAULT_BUDGET;
     }
-    cell_at(file, part.from)
+    cell_at(file, span.from)
 }

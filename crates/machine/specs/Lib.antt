@@ -19,7 +19,7 @@ pub mod Run
 -- the starred lines of the bench sheet
 pub mod Sheet
 -- what a THROW of non-zero leaves
-pub mod Thrown
+pub mod AfterThrow
 -- what a machine and a memory that exist can hold
 pub mod Fits
 pub mod Laws

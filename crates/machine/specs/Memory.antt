@@ -21,8 +21,8 @@ isLong Word = false
 isLong Long = true
 
 -- one of the cells that stand 4 bytes apart from the first address to the last
-abbrev pub stands : ℕ → ℕ → ℕ → Bool
-stands first last a = both (leb first a) (both (leb a last) (eqb (a % 4) 0))
+abbrev pub isListedCell : ℕ → ℕ → ℕ → Bool
+isListedCell first last a = both (leb first a) (both (leb a last) (eqb (a % 4) 0))
 
 -- the locals of level S, the cells of level E
 abbrev pub firstLocal : ℕ
@@ -42,6 +42,6 @@ unfoldable pub placeOf : Width → ℕ → Place
 placeOf w a =
     pick (leb (a + size w) memoryLength)
     (Memory a)
-    (pick (both (isLong w) (stands firstLocal lastLocal a))
+    (pick (both (isLong w) (isListedCell firstLocal lastLocal a))
     (Local ((a - firstLocal) / 4))
-    (pick (both (isLong w) (stands firstCell lastCell a)) (Cell ((a - firstCell) / 4)) Nowhere))
+    (pick (both (isLong w) (isListedCell firstCell lastCell a)) (Cell ((a - firstCell) / 4)) Nowhere))

@@ -70,8 +70,8 @@ module _ (i : Instruction) (mem : List ℕ) (m : Machine) where
   under = m .p - entryAt (i .code) .takes
 
   -- puts cells and goes on; the links, the flag and the memory stay
-  abbrev pub cells : List ℕ → Row
-  cells puts = make under puts still (i .next) (m .flag) mem nothing
+  abbrev pub cellsRow : List ℕ → Row
+  cellsRow puts = make under puts still (i .next) (m .flag) mem nothing
 
   -- goes somewhere, with an action on the links
   abbrev pub jump : Act → ℕ → Row
@@ -82,21 +82,21 @@ module _ (i : Instruction) (mem : List ℕ) (m : Machine) where
   lacking lack = make under [] still (i .next) (m .flag) mem lack
 
   -- puts cells and leaves a flag
-  abbrev pub worked : List ℕ → ℕ → Row
-  worked puts flag = make under puts still (i .next) flag mem nothing
+  abbrev pub calculated : List ℕ → ℕ → Row
+  calculated puts flag = make under puts still (i .next) flag mem nothing
 
   abbrev pub oneRow : Changed → Row
-  oneRow c = worked (c .value ∷ []) (c .flag)
+  oneRow c = calculated (c .value ∷ []) (c .flag)
 
   abbrev pub twoRow : Outcome → Row
-  twoRow (Single value flag) = worked (value ∷ []) flag
-  twoRow (Double lower upper flag) = worked (lower ∷ upper ∷ []) flag
+  twoRow (Single value flag) = calculated (value ∷ []) flag
+  twoRow (Double lower upper flag) = calculated (lower ∷ upper ∷ []) flag
   twoRow DivisorZero = lacking aDivisor
 
   abbrev pub fetchRow : Width → Place → Row
-  fetchRow w (Memory a) = cells (numberAt (size w) mem a ∷ [])
-  fetchRow w (Local k) = cells (getD (localsInView m) k 0 ∷ [])
-  fetchRow w (Cell k) = cells (getD (cellsInView m) k 0 ∷ [])
+  fetchRow w (Memory a) = cellsRow (numberAt (size w) mem a ∷ [])
+  fetchRow w (Local k) = cellsRow (getD (localsInView m) k 0 ∷ [])
+  fetchRow w (Cell k) = cellsRow (getD (cellsInView m) k 0 ∷ [])
   fetchRow w Nowhere = lacking aPlace
 
   abbrev pub storeRow : Width → Place → Row
@@ -141,17 +141,17 @@ module _ (i : Instruction) (mem : List ℕ) (m : Machine) where
   linkRow R> = returnRow pop
   linkRow CATCH = jump (catch (i .next) under) (top m)
   linkRow RESETSP = make 0 [] reset (i .next) (m .flag) mem nothing
-  linkRow THROW = pick (eqb (top m) 0) (cells []) throwRow
+  linkRow THROW = pick (eqb (top m) 0) (cellsRow []) throwRow
   linkRow JSL = jump (call (i .next)) (i .operand)
   linkRow JSR = jump (call (i .next)) (top m)
   linkRow EXIT = jump exit (frameAt (m .links) (m .links .s) .address)
 
   unfoldable pub rowOf : Op → Row
-  rowOf (SHUFFLE o) = cells (shuffled o)
+  rowOf (SHUFFLE o) = cellsRow (shuffled o)
   rowOf (JUMP o) = jump still (target o)
   rowOf (LINK o) = linkRow o
   rowOf (ONE o) = oneRow (oneCellOf o (top m) (m .flag))
   rowOf (TWO o) = twoRow (twoCellsOf o (second m) (top m) (m .flag))
   rowOf (FETCH w) = fetchRow w (placeOf w (top m))
   rowOf (STORE w) = storeRow w (placeOf w (top m))
-  rowOf LITERAL = cells (i .operand ∷ [])
+  rowOf LITERAL = cellsRow (i .operand ∷ [])

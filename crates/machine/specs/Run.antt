@@ -24,7 +24,7 @@ ended answer mem m steps cycles =
     afterOf mem (record { answer = answer; steps = record { 0 = steps }; cycles = record { 0 = cycles }; machine = m })
 
 -- n steps, from n to 42n cycles
-pub record Counted (a : After) : Type 0 where
+pub record CyclesBounded (a : After) : Type 0 where
   pub least : a .ran .steps .0 ≤ a .ran .cycles .0
   pub most : a .ran .cycles .0 ≤ 42 * a .ran .steps .0
 

@@ -17,11 +17,11 @@ pub record Case : Type 0 where
   pub cells : List ℕ
   pub budget : ℕ
   pub result : List ℕ
-  pub left : List ℕ
+  pub cellsAfter : List ℕ
 
 abbrev pub case : List ℕ → List ℕ → ℕ → List ℕ → List ℕ → Case
-case code cells budget result left =
-    record { code = code; cells = cells; budget = budget; result = result; left = left }
+case code cells budget result cellsAfter =
+    record { code = code; cells = cells; budget = budget; result = result; cellsAfter = cellsAfter }
 
 -- what the bench program's line and cells say of a run
 abbrev pub resultOf : After → List ℕ
@@ -29,8 +29,8 @@ resultOf a =
     a .ran .answer ∷ a .ran .steps .0 ∷ a .ran .cycles .0 ∷ a .ran .machine .counter ∷ a .ran .machine .p ∷
     a .ran .machine .links .r ∷ a .ran .machine .links .s ∷ a .ran .machine .links .e ∷ []
 
-abbrev pub leftOf : After → List ℕ
-leftOf a = take (a .ran .machine .p) (a .ran .machine .cells)
+abbrev pub cellsAfterRun : After → List ℕ
+cellsAfterRun a = take (a .ran .machine .p) (a .ran .machine .cells)
 
 abbrev pub same : List ℕ → List ℕ → Bool
 same [] [] = true
@@ -41,7 +41,7 @@ same (x ∷ xs) (y ∷ ys) = both (eqb x y) (same xs ys)
 abbrev pub right : Case → Bool
 right c =
     let a = runOf (padded memoryLength (c .code)) (machineWith (c .cells)) (c .budget) in
-    both (same (resultOf a) (c .result)) (same (leftOf a) (c .left))
+    both (same (resultOf a) (c .result)) (same (cellsAfterRun a) (c .cellsAfter))
 
 abbrev pub allRight : List Case → Bool
 allRight [] = true

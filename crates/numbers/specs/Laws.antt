@@ -4,8 +4,8 @@ pub mod Powers
 pub mod Bytes
 -- Writing: what is then read there, and what stays elsewhere.
 pub mod Writing
--- Rows of numbers: the same for each of them.
-pub mod Rows
+-- Lists of numbers: the same for each of them.
+pub mod Lists
 -- Digits: how they go on, and how many there are.
 pub mod Digits
 -- What digits say is the number that was written.

@@ -5,7 +5,7 @@ use Prim.Native.Nat.{ℕ, _+_}
 use lib.ListN.{length}
 use lib.Seq.{sets}
 
--- `Added before at characters after next`: the characters stand from the place on and end at the next; nothing else is touched
-pub record Added (before : List ℕ) (at : ℕ) (characters after : List ℕ) (next : ℕ) : Type 0 where
+-- `Appended before at characters after next`: the characters stand from the place on and end at the next; nothing else is touched
+pub record Appended (before : List ℕ) (at : ℕ) (characters after : List ℕ) (next : ℕ) : Type 0 where
   pub next-is : next ≡ at + length characters
   pub text-is : after ≡ sets before at characters

@@ -58,12 +58,12 @@ saysPut (Until end) = gives end
 saysPut NoRoom = refuses tooShort
 
 -- what putting characters answers and what the slice then holds
-pub record Spelled : Type 0 where
+pub record WroteText : Type 0 where
   pub said : Answer ℕ
   pub text : List ℕ
 
 -- characters put at a place, or nothing touched
-unfoldable pub putAt : List ℕ → List ℕ → ℕ → Spelled
+unfoldable pub putAt : List ℕ → List ℕ → ℕ → WroteText
 putAt characters text a =
     pick (inside (length characters) text a)
     (record { said = gives (a + length characters); text = sets text a characters })

@@ -11,18 +11,18 @@ use Rattle.numbers.specs.Slices.{Wrote, writeAt}
 use Rattle.numbers.specs.Laws.Bytes.{length-bytes}
 use Rattle.numbers.specs.Laws.Slices.{write-inside}
 use Rattle.machine.specs.Limits.{mostBudget}
-use Rattle.image.specs.Loading.{saysVerdict, handed, Read, wrong-memory, not-spelled, read, refusedWith, loadedFrom}
+use Rattle.image.specs.Loading.{saysVerdict, returned, Read, wrong-memory, not-spelled, read, refusedWith, loadedFrom}
 use Rattle.image.specs.Loading as loading
 use Rattle.image.specs.declared.Loaded.{Loaded}
 use Rattle.image.specs.declared.Verdict.the-variants.{Good, Refused}
 use Rattle.state.specs.Parts.{fieldBytes}
 use Rattle.state.specs.Layout as layout
 use Rattle.state.specs.Promise.{Gives, wrong-size, filled}
-use Rattle.reader.specs.Reads.{Left, Reads, beside}
+use Rattle.reader.specs.Reads.{HandedOut, Reads, beside}
 use Rattle.reader.specs.Reads as reads
 
 -- what the reader refuses it returns fresh, and leaves the memory as it was
-refused-untouched : (file before after : List ℕ) (h : loading.Handed) (number : ℕ) → Read file before after h → h .says ≡ refuses number
+refused-untouched : (file before after : List ℕ) (h : loading.Returned) (number : ℕ) → Read file before after h → h .says ≡ refuses number
     → Read file before before (refusedWith number) × (after ≡ before)
 unfolding refusedWith loadedFrom
 refused-untouched file before after h number (wrong-memory other) e =
@@ -33,7 +33,7 @@ refused-untouched file before after h number (not-spelled long none) e =
     (subst (λ (n : ℕ). Read file before before (refusedWith n)) same (not-spelled long none), λ i. before)
 refused-untouched file before after h number (read i long allowed spells) e = absurd (let z : _≡_ {A = ℕ} 0 1 = cc in omega arith)
 
-budget-low : (file before after : List ℕ) (h : loading.Handed) → Read file before after h → h .budget ≤ mostBudget
+budget-low : (file before after : List ℕ) (h : loading.Returned) → Read file before after h → h .budget ≤ mostBudget
 unfolding refusedWith loadedFrom
 budget-low file before after h (wrong-memory other) = omega arith
 budget-low file before after h (not-spelled long none) = omega arith
@@ -52,7 +52,7 @@ budget-written budget before w long e =
     ∙ ap (λ (rest : List ℕ). bytes ++ rest) (ap (λ (k : ℕ). drop k before) all ∙ drop-length before)
 
 module _ (image memory state result : List ℕ) where
-  abbrev untouched : ℕ → Left
+  abbrev untouched : ℕ → HandedOut
   untouched number = record { number = number; state = state; memory = memory; result = result }
 
   pub other-state : (length state ≡ layout.state .width → ⊥) → Reads image memory state result (untouched 2)
@@ -62,11 +62,11 @@ module _ (image memory state result : List ℕ) where
   other-result h = reads.wrong-length (λ both. h (both .1))
 
   module _ (mid : List ℕ) (loaded : Loaded) (all : length state ≡ layout.state .width) (long : length result ≡ beside .width)
-      (is-read : Read image memory mid (handed loaded)) where
+      (is-read : Read image memory mid (returned loaded)) where
     pub not-read : (number : ℕ) → loaded .verdict ≡ Refused number
         → Reads image memory state result (record { number = number; state = state; memory = mid; result = result })
     not-read number e =
-        let kept = refused-untouched image memory mid (handed loaded) number is-read (ap saysVerdict e) in
+        let kept = refused-untouched image memory mid (returned loaded) number is-read (ap saysVerdict e) in
         subst (λ (m : List ℕ). Reads image memory state result (record { number = number; state = state; memory = m; result = result }))
         (sym (kept .1))
         (reads.refused number all long (kept .0))
@@ -76,8 +76,8 @@ module _ (image memory state result : List ℕ) where
         → Reads image memory state result (record { number = 0; state = given; memory = mid; result = w .bytes })
     handed-out a given w e (wrong-size h) wrote = absurd (h all)
     handed-out a given w e (filled also fits) wrote =
-        let low : loaded .budget ≤ mostBudget = budget-low image memory mid (handed loaded) is-read in
+        let low : loaded .budget ≤ mostBudget = budget-low image memory mid (returned loaded) is-read in
         let small : loaded .budget < 2 ^ 64 = omega arith in
         subst (λ (r : List ℕ). Reads image memory state result (record { number = 0; state = given; memory = mid; result = r }))
         (sym (budget-written (loaded .budget) result w long wrote))
-        (reads.read (record { memory = mid; handed = handed loaded }) all long is-read (ap saysVerdict e) fits (small, tt))
+        (reads.read (record { memory = mid; returned = returned loaded }) all long is-read (ap saysVerdict e) fits (small, tt))

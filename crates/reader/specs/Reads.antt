@@ -20,16 +20,16 @@ abbrev pub beside : Part Beside
 beside = fields besideFields
 
 -- the number, and the three lent buffers afterwards
-pub record Left : Type 0 where
+pub record HandedOut : Type 0 where
   pub number : ℕ
   pub state : List ℕ
   pub memory : List ℕ
   pub result : List ℕ
 
 -- what a good image leaves, for the host
-abbrev pub handedOut : Reading → Left
+abbrev pub handedOut : Reading → HandedOut
 handedOut reading =
-    let read = reading .handed in
+    let read = reading .returned in
     record {
       number = 0;
       state = layout.state .bytes (read .machine);
@@ -37,15 +37,15 @@ handedOut reading =
       result = beside .bytes (record { budget = read .budget });
     }
 
--- `Reads image memory state result left`: another length of the state or the result is 2, then what the reader refuses has its
+-- `Reads image memory state result out`: another length of the state or the result is 2, then what the reader refuses has its
 -- number, and both touch nothing; else the state is the machine that was read and the result its budget, and the bytes can carry both
-pub data Reads (image memory state result : List ℕ) : Left → Type 0 where
+pub data Reads (image memory state result : List ℕ) : HandedOut → Type 0 where
   wrong-length : ((length state ≡ layout.state .width) × (length result ≡ beside .width) → ⊥)
       → Reads image memory state result (record { number = 2; state = state; memory = memory; result = result })
   refused : (number : ℕ) → length state ≡ layout.state .width → length result ≡ beside .width
       → Read image memory memory (refusedWith number)
       → Reads image memory state result (record { number = number; state = state; memory = memory; result = result })
   read : (reading : Reading) → length state ≡ layout.state .width → length result ≡ beside .width
-      → Read image memory (reading .memory) (reading .handed) → reading .handed .says ≡ gives tt
-      → layout.state .Fits (reading .handed .machine) → beside .Fits (record { budget = reading .handed .budget })
+      → Read image memory (reading .memory) (reading .returned) → reading .returned .says ≡ gives tt
+      → layout.state .Fits (reading .returned .machine) → beside .Fits (record { budget = reading .returned .budget })
       → Reads image memory state result (handedOut reading)

@@ -6,9 +6,9 @@ use native.Mathlib.Omega.{arith}
 use lib.ListN.{length, set}
 use Rattle.numbers.specs.Digits.{decimal, hexadecimal}
 use Rattle.numbers.specs.Slices.{tooShort, saysPut, putAt}
-use Rattle.numbers.specs.Putting.{Added}
+use Rattle.numbers.specs.Putting.{Appended}
 use Rattle.numbers.specs.Laws.Digits.{decimal-short, length-hexadecimal}
-use Rattle.numbers.specs.Laws.Putting.{put-added, put-has-room, added-long, added-last}
+use Rattle.numbers.specs.Laws.Putting.{put-appended, put-has-room, appended-long, appended-last}
 use Rattle.numbers.specs.declared.Put.{Put}
 use Rattle.numbers.specs.declared.Put.the-variants.{Until, NoRoom}
 use Rattle.report.specs.Text.{cellDigits}
@@ -33,8 +33,8 @@ module _ {digits : ℕ → List ℕ} {size : ℕ} (d : Digits digits size) (v : 
   never e = let short : length (digits v) + 1 ≤ size = d .short v in put-has-room l m (digits v) at tooShort (found NoRoom e) (omega arith)
 
   module _ (last : ℕ) (is : put ≡ Until last) where
-    added : Added l at (digits v) m last
-    added = let short : length (digits v) + 1 ≤ size = d .short v in put-added l m (digits v) at last (found (Until last) is) (omega arith)
+    added : Appended l at (digits v) m last
+    added = let short : length (digits v) + 1 ≤ size = d .short v in put-appended l m (digits v) at last (found (Until last) is) (omega arith)
 
     pub short : last + 1 ≤ at + size
     short =
@@ -45,8 +45,8 @@ module _ {digits : ℕ → List ℕ} {size : ℕ} (d : Digits digits size) (v : 
     pub inside : last < length m
     inside =
         let less : last + 1 ≤ at + size = short in
-        let long : length m ≡ length l = added-long added in
+        let long : length m ≡ length l = appended-long added in
         omega arith
 
-    pub ended : (end : ℕ) → Added l at (digits v ++ (end ∷ [])) (set m last end) (last + 1)
-    ended end = added-last end added
+    pub ended : (end : ℕ) → Appended l at (digits v ++ (end ∷ [])) (set m last end) (last + 1)
+    ended end = appended-last end added

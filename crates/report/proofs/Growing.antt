@@ -7,8 +7,8 @@ use native.Mathlib.Numerals.{add-one}
 use native.Mathlib.Omega.{arith}
 use lib.ListN.{length, take, drop, getD, drop-of-length-le}
 use lib.Seq.{take-suc, split-at}
-use Rattle.numbers.specs.Putting.{Added}
-use Rattle.numbers.specs.Laws.Putting.{added-none, added-then, added-long}
+use Rattle.numbers.specs.Putting.{Appended}
+use Rattle.numbers.specs.Laws.Putting.{appended-none, appended-then, appended-long}
 use Rattle.report.specs.Text.{space, lineFeed, field, line, cellLine, cellLines}
 use Rattle.report.specs.Sizes.{longestField, cellSize}
 
@@ -32,15 +32,15 @@ pub record Grown (text : ℕ → List ℕ) (size : ℕ) (xs : List ℕ) (count :
   pub few : i ≤ count
   pub short : at ≤ from + i * size
   pub as-long : length m ≡ length l
-  pub added : Added l from (each text (take i xs)) m at
+  pub added : Appended l from (each text (take i xs)) m at
 
 module _ (text : ℕ → List ℕ) (size : ℕ) (xs : List ℕ) (count : ℕ) (l : List ℕ) (from : ℕ) where
   pub grown-none : count ≤ length xs → Grown text size xs count l from l from 0
   unfolding each
-  grown-none h = record { enough = h; few = omega arith; short = omega arith; as-long = refl; added = added-none l from }
+  grown-none h = record { enough = h; few = omega arith; short = omega arith; as-long = refl; added = appended-none l from }
 
   pub grown-more : (m k : List ℕ) (at next i : ℕ) → Grown text size xs count l from m at i → i < count
-      → next ≤ at + size → Added m at (text (getD xs i 0)) k next → Grown text size xs count l from k next (i + 1)
+      → next ≤ at + size → Appended m at (text (getD xs i 0)) k next → Grown text size xs count l from k next (i + 1)
   grown-more m k at next i g h less more =
       let enough : count ≤ length xs = g .enough in
       let short : at ≤ from + i * size = g .short in
@@ -51,8 +51,8 @@ module _ (text : ℕ → List ℕ) (size : ℕ) (xs : List ℕ) (count : ℕ) (l
         enough = enough;
         few = omega arith;
         short = omega arith;
-        as-long = added-long more ∙ g .as-long;
-        added = subst (λ (t : List ℕ). Added l from t k next) grown (added-then (g .added) more);
+        as-long = appended-long more ∙ g .as-long;
+        added = subst (λ (t : List ℕ). Appended l from t k next) grown (appended-then (g .added) more);
       }
 
 -- ---- numbers on a line
@@ -76,7 +76,7 @@ module _ (xs l : List ℕ) (last : ℕ) (m k : List ℕ) (at next i : ℕ) (g : 
       let short : at ≤ 0 + i * longestField = g .short in
       omega arith
 
-  pub line-ends : length xs ≡ last + 1 → Added m at (field (getD xs last 0) lineFeed) k next → Added l 0 (line xs) k next
+  pub line-ends : length xs ≡ last + 1 → Appended m at (field (getD xs last 0) lineFeed) k next → Appended l 0 (line xs) k next
   line-ends long more =
       let few : i ≤ last = g .few in
       let all : i ≡ last = omega arith in
@@ -85,7 +85,7 @@ module _ (xs l : List ℕ) (last : ℕ) (m k : List ℕ) (at next i : ℕ) (g : 
       ap (λ (n : ℕ). each spaced (take n xs) ++ field (getD xs last 0) lineFeed) all
       ∙ sym (line-last (take last xs) (getD xs last 0))
       ∙ ap line (ap (λ (r : List ℕ). take last xs ++ getD xs last 0 ∷ r) (sym none) ∙ sym (split-at xs last 0 (omega arith))) in
-      subst (λ (t : List ℕ). Added l 0 t k next) whole (added-then (g .added) more)
+      subst (λ (t : List ℕ). Appended l 0 t k next) whole (appended-then (g .added) more)
 
 -- ---- cells on their lines
 
@@ -101,9 +101,9 @@ module _ (vs : List ℕ) (count : ℕ) (l : List ℕ) (from : ℕ) (m : List ℕ
       let short : at ≤ from + i * cellSize = g .short in
       omega arith
 
-  pub cells-end : Added l from (cellLines (take count vs)) m at
+  pub cells-end : Appended l from (cellLines (take count vs)) m at
   cells-end =
       let few : i ≤ count = g .few in
       let all : i ≡ count = omega arith in
       let whole : each cellLine (take i vs) ≡ cellLines (take count vs) = each-cell (take i vs) ∙ ap (λ (n : ℕ). cellLines (take n vs)) all in
-      subst (λ (t : List ℕ). Added l from t m at) whole (g .added)
+      subst (λ (t : List ℕ). Appended l from t m at) whole (g .added)

@@ -7,8 +7,8 @@ use lib.ListN.{length, take, drop}
 use lib.Seq.{length-take-le, take-length}
 use borrow.Author.Tests.{le-leb, lt-leb}
 use Rattle.plain.specs.Answer.{gives}
-use Rattle.numbers.specs.Putting.{Added}
-use Rattle.numbers.specs.Laws.Putting.{added-then, added-text}
+use Rattle.numbers.specs.Putting.{Appended}
+use Rattle.numbers.specs.Laws.Putting.{appended-then, appended-text}
 use Rattle.machine.specs.declared.Ran.{Ran}
 use Rattle.report.specs.Text.{lineFeed, field, line, cellLines, numbersOf, textOf, refusalText}
 use Rattle.report.specs.Sizes.{longestField, longest}
@@ -40,11 +40,11 @@ module _ (text : List ℕ) (count : ℕ) (before : List ℕ) (within : count ≤
       simp (le-leb (length (take count text)) (length before) (omega arith)) (λ i. record { printed = gives (e i); out = out i })
 
 pub refusal-printed : (number : ℕ) (out l m : List ℕ) (end : ℕ) (reported : Reported) → length l ≡ longestField
-    → Added l 0 (field number lineFeed) m end → reported ≡ printedIn (take end m) out → reported ≡ refusalOf number out
+    → Appended l 0 (field number lineFeed) m end → reported ≡ printedIn (take end m) out → reported ≡ refusalOf number out
 unfolding refusalOf refusalText
 refusal-printed number out l m end reported room added is =
     let size = field-size number lineFeed in
-    is ∙ ap (λ (t : List ℕ). printedIn t out) (added-text added (omega arith))
+    is ∙ ap (λ (t : List ℕ). printedIn t out) (appended-text added (omega arith))
 
 module _ (ran : Ran) (out : List ℕ) where
   pub too-many : cellsDepth < ran .machine .p → untouched out ≡ reportOf ran out
@@ -52,9 +52,9 @@ module _ (ran : Ran) (out : List ℕ) where
   too-many h = simp (lt-leb _ _ h)
 
   pub run-printed : (numbers l m k : List ℕ) (first end : ℕ) (reported : Reported) → ran .machine .p ≤ cellsDepth → numbers ≡ numbersOf ran → length l ≡ longest
-      → Added l 0 (line numbers) m first → Added m first (cellLines (take (ran .machine .p) (ran .machine .cells))) k end
+      → Appended l 0 (line numbers) m first → Appended m first (cellLines (take (ran .machine .p) (ran .machine .cells))) k end
       → reported ≡ printedIn (take end k) out → reported ≡ reportOf ran out
   unfolding textOf reportOf
   run-printed numbers l m k first end reported few are room first-line cells is =
       let size = text-size ran few in
-      is ∙ ap (λ (t : List ℕ). printedIn t out) (added-text (added-then (subst (λ (ns : List ℕ). Added l 0 (line ns) m first) are first-line) cells) (omega arith)) ∙ simp (le-leb _ _ few)
+      is ∙ ap (λ (t : List ℕ). printedIn t out) (appended-text (appended-then (subst (λ (ns : List ℕ). Appended l 0 (line ns) m first) are first-line) cells) (omega arith)) ∙ simp (le-leb _ _ few)

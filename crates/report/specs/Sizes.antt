@@ -9,11 +9,11 @@ abbrev pub longestField : ℕ
 longestField = mostDecimal + 1
 
 -- so many numbers stand on the line of a run
-abbrev pub fields : ℕ
-fields = 8
+abbrev pub fieldsCount : ℕ
+fieldsCount = 8
 
 abbrev pub longestLine : ℕ
-longestLine = fields * longestField
+longestLine = fieldsCount * longestField
 
 -- a cell, and the line feed after it
 abbrev pub cellSize : ℕ

@@ -9,7 +9,7 @@ use numbers::Put;
 ghost use mathlib.Core.Path.{_≡_};
 ghost use Prim.Native.Nat.{_+_, _*_, _≤_};
 ghost use lib.ListN.{length, take};
-ghost use Rattle.numbers.specs.Putting.{Added};
+ghost use Rattle.numbers.specs.Putting.{Appended};
 ghost use Rattle.report.specs.Sizes.{longestField, longestLine, cellSize};
 ghost use Rattle.links.specs.Depths.{cellsDepth};
 ghost use Rattle.report.specs.Text.{field, line, cellLine, cellLines, numbersOf};
@@ -21,7 +21,7 @@ pub(crate) const LINE_FEED: u8 = 0x0A;
 // A number and the character after it.
 pub(crate) fn put_field(text: &mut [u8], at: usize, value: u64, end: u8) -> usize
     requires { ⌜ at + longestField ≤ length (now text) ⌝ }
-    ensures { λ r. ⌜ (r ≤ at + longestField) × Added (now (text .entry)) at (field value end) (now (text .exit)) r ⌝ }
+    ensures { λ r. ⌜ (r ≤ at + longestField) × Appended (now (text .entry)) at (field value end) (now (text .exit)) r ⌝ }
 {
     let Put::Until(last) = numbers::write_decimal(text, at, value) else {
         return at;
@@ -33,7 +33,7 @@ pub(crate) fn put_field(text: &mut [u8], at: usize, value: u64, end: u8) -> usiz
 // A cell on its own line.
 fn put_cell(text: &mut [u8], at: usize, value: u32) -> usize
     requires { ⌜ at + cellSize ≤ length (now text) ⌝ }
-    ensures { λ r. ⌜ (r ≤ at + cellSize) × Added (now (text .entry)) at (cellLine value) (now (text .exit)) r ⌝ }
+    ensures { λ r. ⌜ (r ≤ at + cellSize) × Appended (now (text .entry)) at (cellLine value) (now (text .exit)) r ⌝ }
 {
     let Put::Until(last) = numbers::write_hexadecimal(text, at, CELL_DIGITS, value) else {
         return at;
@@ -65,7 +65,7 @@ pub(crate) fn numbers_of(ran: Ran) -> [u64; FIELDS]
 // The numbers of a run on a line, from the start of the text.
 pub(crate) fn put_line(text: &mut [u8], numbers: [u64; FIELDS]) -> usize
     requires { ⌜ longestLine ≤ length (now text) ⌝ }
-    ensures { λ r. ⌜ (r ≤ longestLine) × Added (now (text .entry)) 0 (line numbers) (now (text .exit)) r ⌝ }
+    ensures { λ r. ⌜ (r ≤ longestLine) × Appended (now (text .entry)) 0 (line numbers) (now (text .exit)) r ⌝ }
 {
     let mut at = 0;
     let mut i = 0;
@@ -84,7 +84,7 @@ pub(crate) fn put_cells(
     count: usize,
 ) -> usize
     requires { ⌜ (from + count * cellSize ≤ length (now text)) × (count ≤ cellsDepth) ⌝ }
-    ensures { λ r. ⌜ (r ≤ from + count * cellSize) × Added (now (text .entry)) from (cellLines (take count cells)) (now (text .exit)) r ⌝ }
+    ensures { λ r. ⌜ (r ≤ from + count * cellSize) × Appended (now (text .entry)) from (cellLines (take count cells)) (now (text .exit)) r ⌝ }
 {
     let mut at = from;
     let mut i = 0;

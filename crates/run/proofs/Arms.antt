@@ -29,8 +29,8 @@ use Rattle.machine.specs.declared.Place.{Place}
 use Rattle.machine.specs.declared.Place.the-variants.{Memory, Local, Cell, Nowhere}
 use Rattle.run.specs.Accesses.{widthOf, reachOf}
 use Rattle.run.specs.Answers.{stepBy}
-use Rattle.run.specs.Machines.{inside}
-use Rattle.run.specs.Promises.{Carries, Spells, Unaltered}
+use Rattle.run.specs.Machines.{insideMemory}
+use Rattle.run.specs.Promises.{CarriesOut, Spells, Unaltered}
 use Rattle.run.specs.Registers.{machineIn, movedTo, haltedBy}
 use Rattle.run.specs.Verdicts.{pushable, readable, callable, catchable, throwable, exitable, sAfterPop, eAfterDropOf, eAfterPop}
 use Rattle.run.specs.declared.Registers.{Registers}
@@ -89,7 +89,7 @@ module _ {mem₀ : List ℕ} {m₀ : Machine} {budget : ℕ} {mem cells returns 
     here = machineIn cells returns frames levels g
 
     abbrev Does : {A : Type 0} → Answer A → (A → Stepped) → Type 0
-    Does said after = Acts (inside code operand next) mem here said after
+    Does said after = Acts (insideMemory code operand next) mem here said after
 
     -- an instruction that leaves no cells behind has room
     room : (keeps : ℕ) → keeps ≤ g .p → ltb cellsDepth (keeps + 0) ≡ false
@@ -179,7 +179,7 @@ module _ {mem₀ : List ℕ} {m₀ : Machine} {budget : ℕ} {mem cells returns 
         e = throw-spelled code key
 
         go : (a b z : Bool) → ltb (g .p) 1 ≡ a → eqb (getD cells (g .p - 1) 0) 0 ≡ b → eqb (g .e) 0 ≡ z →
-            carried (inside code operand next) mem here ≡ stepBy (throwable cells (g .p) (g .e)) thrownBy
+            carried (insideMemory code operand next) mem here ≡ stepBy (throwable cells (g .p) (g .e)) thrownBy
         go true true z few zero none = rw (e .names, zero, e .known, e .asks, few)
         go true false z few zero none = rw (e .names, zero, e .known, e .asks, few)
         go false true z few zero none =
@@ -229,8 +229,8 @@ module _ {mem₀ : List ℕ} {m₀ : Machine} {budget : ℕ} {mem cells returns 
         }
 
     -- only THROW's cost is not the table's
-    cost : (code ≡ 0x0D → ⊥) → costOf (inside code operand next) here ≡ cyclesOf code
-    cost other = by-code (inside code operand next) here (λ h z. other h)
+    cost : (code ≡ 0x0D → ⊥) → costOf (insideMemory code operand next) here ≡ cyclesOf code
+    cost other = by-code (insideMemory code operand next) here (λ h z. other h)
 
     -- FETCH: the top cell becomes what is found
     abbrev pub fetchedAs : ℕ → Stepped
@@ -260,11 +260,11 @@ module _ {mem₀ : List ℕ} {m₀ : Machine} {budget : ℕ} {mem cells returns 
         e : Spells code (FETCH (widthOf code)) 1
         e = fetch-spelled code key
 
-        paid : costOf (inside code operand next) here ≡ cyclesOf code
+        paid : costOf (insideMemory code operand next) here ≡ cyclesOf code
         paid = cost (no-throw key (λ h. omega arith) (λ h. omega arith) (λ h. omega arith))
 
         go : (a : Bool) → ltb (g .p) 1 ≡ a → (place : Place) → placeOf (widthOf code) (getD cells (g .p - 1) 0) ≡ place →
-            carried (inside code operand next) mem here ≡ stepBy (reachOf 1 (widthOf code) cells (g .p)) (fetchedBy (widthOf code))
+            carried (insideMemory code operand next) mem here ≡ stepBy (reachOf 1 (widthOf code) cells (g .p)) (fetchedBy (widthOf code))
         go true few (Memory a) at = rw (e .names, at, e .known, e .asks, few)
         go true few (Local k) at = rw (e .names, at, e .known, e .asks, few)
         go true few (Cell k) at = rw (e .names, at, e .known, e .asks, few)
@@ -309,7 +309,7 @@ module _ {mem₀ : List ℕ} {m₀ : Machine} {budget : ℕ} {mem cells returns 
         e : Spells code (STORE (widthOf code)) 2
         e = store-spelled code key
 
-        paid : costOf (inside code operand next) here ≡ cyclesOf code
+        paid : costOf (insideMemory code operand next) here ≡ cyclesOf code
         paid = cost (no-throw key (λ h. omega arith) (λ h. omega arith) (λ h. omega arith))
 
         full-two : ltb cellsDepth (g .p - 2 + 0) ≡ false
@@ -319,7 +319,7 @@ module _ {mem₀ : List ℕ} {m₀ : Machine} {budget : ℕ} {mem cells returns 
         depth-two = omega arith
 
         go : (a : Bool) → ltb (g .p) 2 ≡ a → (place : Place) → placeOf (widthOf code) (getD cells (g .p - 1) 0) ≡ place →
-            carried (inside code operand next) mem here ≡ stepBy (reachOf 2 (widthOf code) cells (g .p)) (storedBy (widthOf code))
+            carried (insideMemory code operand next) mem here ≡ stepBy (reachOf 2 (widthOf code) cells (g .p)) (storedBy (widthOf code))
         go true few (Memory a) at = rw (e .names, at, e .known, e .asks, few)
         go true few (Local k) at = rw (e .names, at, e .known, e .asks, few)
         go true few (Cell k) at = rw (e .names, at, e .known, e .asks, few)
@@ -334,13 +334,13 @@ module _ {mem₀ : List ℕ} {m₀ : Machine} {budget : ℕ} {mem cells returns 
     wentTo cells′ price at =
         done mem (machineIn cells′ returns frames levels (movedTo g (at .p) (g .r) (g .s) (g .e) (at .counter) (at .flag))) price
 
-    pub cells-acts : (code ≡ 0x0D → ⊥) → {cells′ : List ℕ} {said : Answer Stack} → Carries code operand next cells (g .p) (g .flag) cells′ said →
+    pub cells-acts : (code ≡ 0x0D → ⊥) → {cells′ : List ℕ} {said : Answer Stack} → CarriesOut code operand next cells (g .p) (g .flag) cells′ said →
         Does said (wentTo cells′ (cyclesOf code))
     cells-acts other {cells′} {said} carries =
         record { is = carries mem here .0 ∙ ap (λ (price : ℕ). stepBy said (wentTo cells′ price)) (cost other) }
 
     -- a refusal leaves the cells as they were
-    pub cells-end : (code ≡ 0x0D → ⊥) → {cells′ : List ℕ} {said : Answer Stack} → Carries code operand next cells (g .p) (g .flag) cells′ said →
+    pub cells-end : (code ≡ 0x0D → ⊥) → {cells′ : List ℕ} {said : Answer Stack} → CarriesOut code operand next cells (g .p) (g .flag) cells′ said →
         {number : ℕ} → said ≡ refuses number → {g′ : Registers} → g′ ≡ haltedBy said g → Round mem₀ m₀ budget mem cells′ returns frames levels g′
     cells-end other {cells′} {said} carries e {g′} eg =
         let same : cells′ ≡ cells = subst (Unaltered cells cells′) e (carries mem here .1) in

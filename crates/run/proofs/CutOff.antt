@@ -20,7 +20,7 @@ use Rattle.machine.specs.Laws.Kept.{fair-at}
 use Rattle.machine.specs.Laws.Marks.{marked}
 use Rattle.machine.specs.Laws.Told.{Tells}
 use Rattle.machine.specs.declared.Machine.{Machine}
-use Rattle.run.specs.Machines.{inside}
+use Rattle.run.specs.Machines.{insideMemory}
 use Rattle.run.specs.Promises.{fetchedOf}
 use Rattle.run.proofs.Answered.{apart}
 
@@ -33,11 +33,11 @@ inside-of i j e = go (i .outside) e
     go false e = cc
 
 pub step-is : (mem : List ℕ) (m : Machine) (code operand next : ℕ) →
-    fetchedOf (instructionAt mem (m .counter)) ≡ gives (inside code operand next) →
-    stepOf mem m ≡ carried (inside code operand next) mem m
+    fetchedOf (instructionAt mem (m .counter)) ≡ gives (insideMemory code operand next) →
+    stepOf mem m ≡ carried (insideMemory code operand next) mem m
 unfolding stepOf
 step-is mem m code operand next e =
-    ap (λ (i : Instruction). carried i mem m) (inside-of (instructionAt mem (m .counter)) (inside code operand next) e)
+    ap (λ (i : Instruction). carried i mem m) (inside-of (instructionAt mem (m .counter)) (insideMemory code operand next) e)
 
 exit-follows : bytesWith (entryAt 0x3D .operand) ≡ 1
 unfolding entryAt table

@@ -11,7 +11,7 @@ use Rattle.numbers.specs.Bytes.{byteAt}
 use Rattle.machine.specs.Limits.{memoryLength}
 use Rattle.machine.specs.Codes.{Operand, offset, bytesWith, entryBEQ, entryBRA, entryAt}
 use Rattle.machine.specs.Fetch.{instructionAt, operandAt}
-use Rattle.run.specs.Machines.{inside}
+use Rattle.run.specs.Machines.{insideMemory}
 use Rattle.run.specs.Promises.{fetchedOf}
 
 module _ (mem : List ℕ) (at code : ℕ) (kind : Operand)
@@ -23,7 +23,7 @@ module _ (mem : List ℕ) (at code : ℕ) (kind : Operand)
 
   -- it lies in memory
   pub whole : (operand next : ℕ) → at + bytesWith kind ≤ memoryLength → operand ≡ operandAt kind mem at → next ≡ (at + bytesWith kind) % 2 ^ 32 →
-      gives (inside code operand next) ≡ fetchedOf (instructionAt mem at)
+      gives (insideMemory code operand next) ≡ fetchedOf (instructionAt mem at)
   unfolding instructionAt
   whole operand next h same after =
       rw (stands, follows, lt-ltb at memoryLength inMemory, le-ltb memoryLength (at + bytesWith kind) h, same, after)

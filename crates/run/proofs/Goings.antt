@@ -12,7 +12,7 @@ use Rattle.plain.specs.Answer.{refuses, gives}
 use Rattle.links.specs.Depths.{cellsDepth}
 use Rattle.machine.specs.Rows.{rowOf}
 use Rattle.machine.specs.Codes.{SHUFFLE, DUP-NONZERO, JUMP, JMP, BEQ, BRA}
-use Rattle.run.specs.Promises.{Meets, pushed, pushedCells}
+use Rattle.run.specs.Promises.{Meets, cellPushed, pushedCells}
 use Rattle.run.proofs.OnCells.{few, went, by-push}
 use Rattle.run.proofs.Pushes.{rewritten}
 
@@ -32,7 +32,7 @@ module _ (operand next : ℕ) (cells : List ℕ) (p flag : ℕ) where
       cells p h top (set-getD cells (p - 1) 0) (omega arith)
 
   pub dup-nonzero-pushed : eqb (getD cells (p - 1) 0) 0 ≡ false → 1 ≤ p → p ≤ cellsDepth →
-      Meets (SHUFFLE DUP-NONZERO) 1 operand next cells p flag (pushedCells cells p (getD cells (p - 1) 0)) (pushed p flag next)
+      Meets (SHUFFLE DUP-NONZERO) 1 operand next cells p flag (pushedCells cells p (getD cells (p - 1) 0)) (cellPushed p flag next)
   unfolding rowOf
   dup-nonzero-pushed notZero h top =
       by-push (SHUFFLE DUP-NONZERO) 1 operand next cells p flag (p - 1) (getD cells (p - 1) 0 ∷ getD cells (p - 1) 0 ∷ []) next flag

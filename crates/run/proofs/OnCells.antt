@@ -16,15 +16,15 @@ use Rattle.machine.specs.Codes.{Op}
 use Rattle.machine.specs.Rows.{make, rowOf, nothing}
 use Rattle.machine.specs.Step.{carried}
 use Rattle.machine.specs.declared.Machine.{Machine}
-use Rattle.run.specs.Machines.{withStack, inside}
-use Rattle.run.specs.Promises.{Spells, Meets, pushed, pushedCells}
+use Rattle.run.specs.Machines.{withStack, insideMemory}
+use Rattle.run.specs.Promises.{Spells, Meets, cellPushed, pushedCells}
 
 -- the row of an instruction that leaves links and memory alone and asks for nothing
 abbrev pub Plain : Op → ℕ → ℕ → ℕ → List ℕ → ℕ → ℕ → ℕ → List ℕ → ℕ → ℕ → Type 0
 Plain op takes operand next cells p flag keeps values goes flag′ =
     (code : ℕ) → Spells code op takes →
     (mem : List ℕ) (rest : Machine) →
-    rowOf (inside code operand next) mem (withStack cells p (rest .counter) flag rest) op ≡
+    rowOf (insideMemory code operand next) mem (withStack cells p (rest .counter) flag rest) op ≡
     make keeps values still goes flag′ mem nothing
 
 module _ (op : Op) (takes operand next : ℕ) (cells : List ℕ) (p flag keeps : ℕ) (values : List ℕ) (goes flag′ : ℕ)
@@ -55,7 +55,7 @@ module _ (op : Op) (takes operand next : ℕ) (cells : List ℕ) (p flag keeps :
   -- it is carried out by a push, unless P would pass 64
   pub by-push : (v : ℕ) → flag′ ≡ flag → goes ≡ next → takes ≤ p → p ≤ cellsDepth →
       sets cells keeps values ≡ set cells p v → keeps + length values ≡ p + 1 →
-      Meets op takes operand next cells p flag (pushedCells cells p v) (pushed p flag next)
+      Meets op takes operand next cells p flag (pushedCells cells p v) (cellPushed p flag next)
   by-push v f g h top same depth = go (leb cellsDepth p) refl
     where
       go : (b : Bool) → leb cellsDepth p ≡ b →

@@ -6,16 +6,16 @@ use native.Mathlib.Omega.{arith}
 use borrow.Author.Tests.{le-leb, lt-leb, eq-eqb, ne-eqb}
 use lib.Dec.{leb}
 use Rattle.plain.specs.Choice.{pick, both}
-use Rattle.machine.specs.Memory.{stands, firstLocal, lastLocal, firstCell, lastCell}
+use Rattle.machine.specs.Memory.{isListedCell, firstLocal, lastLocal, firstCell, lastCell}
 use Rattle.machine.specs.declared.Place.{Place}
 use Rattle.machine.specs.declared.Place.the-variants.{Local, Cell, Nowhere}
 
 -- the cell at an address, as the definition of a place has it
 abbrev pub cellAt : ℕ → Place
 cellAt a =
-    pick (stands firstLocal lastLocal a)
+    pick (isListedCell firstLocal lastLocal a)
     (Local ((a - firstLocal) / 4))
-    (pick (stands firstCell lastCell a) (Cell ((a - firstCell) / 4)) Nowhere)
+    (pick (isListedCell firstCell lastCell a) (Cell ((a - firstCell) / 4)) Nowhere)
 
 neither : (x y : Bool) → both x (both y false) ≡ false
 neither true true = refl

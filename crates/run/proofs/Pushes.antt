@@ -9,7 +9,7 @@ use Rattle.plain.specs.Answer.{refuses}
 use Rattle.links.specs.Depths.{cellsDepth}
 use Rattle.machine.specs.Rows.{rowOf}
 use Rattle.machine.specs.Codes.{SHUFFLE, DUP, OVER, PSP-AT, ZERO, LITERAL}
-use Rattle.run.specs.Promises.{Meets, pushed, pushedCells}
+use Rattle.run.specs.Promises.{Meets, cellPushed, pushedCells}
 use Rattle.run.proofs.OnCells.{few, by-push}
 
 module _ (operand next : ℕ) (cells : List ℕ) (p flag : ℕ) where
@@ -30,7 +30,7 @@ module _ (operand next : ℕ) (cells : List ℕ) (p flag : ℕ) where
   unfolding rowOf
   dup-few = few (SHUFFLE DUP) 1 operand next cells p flag (p - 1) (getD cells (p - 1) 0 ∷ getD cells (p - 1) 0 ∷ []) (next) (flag) (λ code e mem rest. rw (e .asks))
 
-  pub dup-pushed : 1 ≤ p → p ≤ cellsDepth → Meets (SHUFFLE DUP) 1 operand next cells p flag (pushedCells cells p (getD cells (p - 1) 0)) (pushed p flag next)
+  pub dup-pushed : 1 ≤ p → p ≤ cellsDepth → Meets (SHUFFLE DUP) 1 operand next cells p flag (pushedCells cells p (getD cells (p - 1) 0)) (cellPushed p flag next)
   unfolding rowOf
   dup-pushed h top =
       by-push (SHUFFLE DUP) 1 operand next cells p flag (p - 1) (getD cells (p - 1) 0 ∷ getD cells (p - 1) 0 ∷ []) next flag (λ code e mem rest. rw (e .asks))
@@ -40,25 +40,25 @@ module _ (operand next : ℕ) (cells : List ℕ) (p flag : ℕ) where
   unfolding rowOf
   over-few = few (SHUFFLE OVER) 2 operand next cells p flag (p - 2) (getD cells (p - 2) 0 ∷ getD cells (p - 1) 0 ∷ getD cells (p - 2) 0 ∷ []) (next) (flag) (λ code e mem rest. rw (e .asks))
 
-  pub over-pushed : 2 ≤ p → p ≤ cellsDepth → Meets (SHUFFLE OVER) 2 operand next cells p flag (pushedCells cells p (getD cells (p - 2) 0)) (pushed p flag next)
+  pub over-pushed : 2 ≤ p → p ≤ cellsDepth → Meets (SHUFFLE OVER) 2 operand next cells p flag (pushedCells cells p (getD cells (p - 2) 0)) (cellPushed p flag next)
   unfolding rowOf
   over-pushed h top =
       by-push (SHUFFLE OVER) 2 operand next cells p flag (p - 2) (getD cells (p - 2) 0 ∷ getD cells (p - 1) 0 ∷ getD cells (p - 2) 0 ∷ []) next flag (λ code e mem rest. rw (e .asks))
       (getD cells (p - 2) 0) refl refl h top (rewritten-two h (getD cells (p - 2) 0)) (omega arith)
 
-  pub depth-pushed : p ≤ cellsDepth → Meets (SHUFFLE PSP-AT) 0 operand next cells p flag (pushedCells cells p (p)) (pushed p flag next)
+  pub depth-pushed : p ≤ cellsDepth → Meets (SHUFFLE PSP-AT) 0 operand next cells p flag (pushedCells cells p (p)) (cellPushed p flag next)
   unfolding rowOf
   depth-pushed top =
       by-push (SHUFFLE PSP-AT) 0 operand next cells p flag (p - 0) (p ∷ []) next flag (λ code e mem rest. rw (e .asks))
       (p) refl refl (omega arith) top (ap (λ (n : ℕ). set cells n (p)) (omega arith)) (omega arith)
 
-  pub zero-pushed : p ≤ cellsDepth → Meets (SHUFFLE ZERO) 0 operand next cells p flag (pushedCells cells p (0)) (pushed p flag next)
+  pub zero-pushed : p ≤ cellsDepth → Meets (SHUFFLE ZERO) 0 operand next cells p flag (pushedCells cells p (0)) (cellPushed p flag next)
   unfolding rowOf
   zero-pushed top =
       by-push (SHUFFLE ZERO) 0 operand next cells p flag (p - 0) (0 ∷ []) next flag (λ code e mem rest. rw (e .asks))
       (0) refl refl (omega arith) top (ap (λ (n : ℕ). set cells n (0)) (omega arith)) (omega arith)
 
-  pub literal-pushed : p ≤ cellsDepth → Meets LITERAL 0 operand next cells p flag (pushedCells cells p (operand)) (pushed p flag next)
+  pub literal-pushed : p ≤ cellsDepth → Meets LITERAL 0 operand next cells p flag (pushedCells cells p (operand)) (cellPushed p flag next)
   unfolding rowOf
   literal-pushed top =
       by-push LITERAL 0 operand next cells p flag (p - 0) (operand ∷ []) next flag (λ code e mem rest. rw (e .asks))

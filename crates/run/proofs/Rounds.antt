@@ -19,7 +19,7 @@ use Rattle.machine.specs.Run.{ended, runFrom}
 use Rattle.machine.specs.declared.Machine.{Machine}
 use Rattle.machine.specs.declared.Steps.{Steps}
 use Rattle.machine.specs.declared.Cycles.{Cycles}
-use Rattle.run.specs.Machines.{linksOf, inside}
+use Rattle.run.specs.Machines.{linksOf, insideMemory}
 use Rattle.run.specs.Promises.{fetchedOf}
 use Rattle.run.specs.Registers.{machineIn, countedTo, haltedAt, haltedBy}
 use Rattle.run.specs.declared.Registers.{Registers}
@@ -153,16 +153,16 @@ pub record Found (mem₀ : List ℕ) (m₀ : Machine) (budget : ℕ) (mem cells 
     (code operand next : ℕ) : Type 0 where
   pub round : Round mem₀ m₀ budget mem cells returns frames levels g
   pub less : 0 < g .left .0
-  pub fetched : fetchedOf (instructionAt mem (g .counter)) ≡ gives (inside code operand next)
+  pub fetched : fetchedOf (instructionAt mem (g .counter)) ≡ gives (insideMemory code operand next)
 
 module _ {mem₀ : List ℕ} {m₀ : Machine} {budget : ℕ} {mem cells returns : List ℕ} {frames : List Frame} {levels : List Level} {g : Registers}
     {code operand next : ℕ} (found : Found mem₀ m₀ budget mem cells returns frames levels g code operand next)
   where
-    is-step : stepOf mem (machineIn cells returns frames levels g) ≡ carried (inside code operand next) mem (machineIn cells returns frames levels g)
+    is-step : stepOf mem (machineIn cells returns frames levels g) ≡ carried (insideMemory code operand next) mem (machineIn cells returns frames levels g)
     is-step = step-is mem (machineIn cells returns frames levels g) code operand next (found .fetched)
 
     module _ {A : Type 0} {said : Answer A} {after : A → Stepped}
-        (acts : Acts (inside code operand next) mem (machineIn cells returns frames levels g) said after)
+        (acts : Acts (insideMemory code operand next) mem (machineIn cells returns frames levels g) said after)
       where
         -- a check refuses: the run is over
         pub ends : {number : ℕ} → said ≡ refuses number → {heard : Answer A} → heard ≡ said → {g′ : Registers} → g′ ≡ haltedBy heard g →

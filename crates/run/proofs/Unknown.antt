@@ -13,7 +13,7 @@ use Rattle.plain.specs.Answer.{refuses}
 use Rattle.machine.specs.Codes.{Entry, unknown, entryAt, table}
 use Rattle.machine.specs.Rows.{rowOf}
 use Rattle.machine.specs.Step.{carried}
-use Rattle.run.specs.Promises.{Carries}
+use Rattle.run.specs.Promises.{CarriesOut}
 
 -- the entries from place k on, asked one after another
 abbrev pub chain : ℕ → List Entry → ℕ → Entry
@@ -41,6 +41,6 @@ either-way false e = refl
 
 -- an unknown code is refused with 4, and alters no cell
 pub unknown-refused : (code operand next p flag : ℕ) (cells : List ℕ) → entryAt code ≡ unknown →
-    Carries code operand next cells p flag cells (refuses 4)
+    CarriesOut code operand next cells p flag cells (refuses 4)
 unfolding rowOf carried
 unknown-refused code operand next p flag cells e mem rest = (rw e, refl)

@@ -2,7 +2,7 @@
 use Rattle.plain.specs.Answer.{Answer, refuses, gives}
 use Rattle.machine.specs.Fetch.{Instruction}
 use Rattle.machine.specs.Step.{Stepped, refused}
-use Rattle.run.specs.Machines.{inside}
+use Rattle.run.specs.Machines.{insideMemory}
 use Rattle.run.specs.declared.Fetched.{Fetched}
 use Rattle.run.specs.declared.Fetched.the-variants as fetched
 use Rattle.run.specs.declared.Checked.{Checked}
@@ -20,7 +20,7 @@ use Rattle.run.specs.declared.Done.{Done}
 use Rattle.run.specs.declared.Done.the-variants as done
 
 abbrev pub saysFetched : Fetched → Answer Instruction
-saysFetched (fetched.Instruction code operand next) = gives (inside code operand next)
+saysFetched (fetched.Instruction code operand next) = gives (insideMemory code operand next)
 saysFetched (fetched.Refused number) = refuses number
 
 abbrev pub saysChecked : Checked → Answer (Unit {0})
@@ -29,7 +29,7 @@ saysChecked (checked.Refused number) = refuses number
 
 -- the end of the program
 abbrev pub saysExit : Exit → Answer (Unit {0})
-saysExit exit.Level = gives tt
+saysExit exit.Frame = gives tt
 saysExit exit.Program = refuses 0
 
 abbrev pub saysThrown : Thrown → Answer Throw

@@ -20,8 +20,8 @@ abbrev pub withStack : List ℕ → ℕ → ℕ → ℕ → Machine → Machine
 withStack cells p counter flag m = record { cells = cells; p = p; links = m .links; counter = counter; flag = flag }
 
 -- an instruction all of whose bytes are in memory
-abbrev pub inside : ℕ → ℕ → ℕ → Instruction
-inside code operand next = record { code = code; operand = operand; next = next; outside = false }
+abbrev pub insideMemory : ℕ → ℕ → ℕ → Instruction
+insideMemory code operand next = record { code = code; operand = operand; next = next; outside = false }
 
 abbrev pub ranOf : ℕ → Steps → Cycles → Machine → Ran
 ranOf answer steps cycles machine = record { answer = answer; steps = steps; cycles = cycles; machine = machine }

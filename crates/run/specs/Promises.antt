@@ -14,7 +14,7 @@ use Rattle.numbers.specs.Bytes.{byteAt}
 use Rattle.machine.specs.Step.{done, costOf, carried}
 use Rattle.machine.specs.declared.Machine.{Machine}
 use Rattle.run.specs.Answers.{stepBy}
-use Rattle.run.specs.Machines.{withStack, inside}
+use Rattle.run.specs.Machines.{withStack, insideMemory}
 use Rattle.run.specs.declared.Stack.{Stack}
 
 -- a fetched instruction, or 3 where a byte of it is outside memory
@@ -38,10 +38,10 @@ Unaltered cells cells′ (refuses number) = cells′ ≡ cells
 Unaltered cells cells′ (gives at) = Unit {0}
 
 -- an instruction on the parameter cells is carried out as defined, whatever the memory and the rest of the machine hold
-abbrev pub Carries : ℕ → ℕ → ℕ → List ℕ → ℕ → ℕ → List ℕ → Answer Stack → Type 0
-Carries code operand next cells p flag cells′ said =
+abbrev pub CarriesOut : ℕ → ℕ → ℕ → List ℕ → ℕ → ℕ → List ℕ → Answer Stack → Type 0
+CarriesOut code operand next cells p flag cells′ said =
     (mem : List ℕ) (rest : Machine) →
-    let i = inside code operand next in
+    let i = insideMemory code operand next in
     let m = withStack cells p (rest .counter) flag rest in
     (carried i mem m ≡ stepBy said (λ at. done mem (withStack cells′ (at .p) (at .counter) (at .flag) rest) (costOf i m))) ×
     Unaltered cells cells′ said
@@ -55,11 +55,11 @@ pub record Spells (code : ℕ) (op : Op) (takes : ℕ) : Type 0 where
 -- the same for every code of one instruction
 abbrev pub Meets : Op → ℕ → ℕ → ℕ → List ℕ → ℕ → ℕ → List ℕ → Answer Stack → Type 0
 Meets op takes operand next cells p flag cells′ said =
-    (code : ℕ) → Spells code op takes → Carries code operand next cells p flag cells′ said
+    (code : ℕ) → Spells code op takes → CarriesOut code operand next cells p flag cells′ said
 
 -- a cell is pushed, unless P would pass 64
-abbrev pub pushed : ℕ → ℕ → ℕ → Answer Stack
-pushed p flag next = pick (leb cellsDepth p) (refuses 8) (gives (record { p = p + 1; flag = flag; counter = next }))
+abbrev pub cellPushed : ℕ → ℕ → ℕ → Answer Stack
+cellPushed p flag next = pick (leb cellsDepth p) (refuses 8) (gives (record { p = p + 1; flag = flag; counter = next }))
 
 abbrev pub pushedCells : List ℕ → ℕ → ℕ → List ℕ
 pushedCells cells p value = pick (leb cellsDepth p) cells (set cells p value)

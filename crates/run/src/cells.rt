@@ -11,12 +11,12 @@ ghost use Rattle.links.specs.Depths.{cellsDepth};
 ghost use Rattle.machine.specs.Codes.{SHUFFLE, NOP, DROP, DUP, SWAP, OVER, NIP, ROT, PSP-AT, ZERO, DUP-NONZERO, ONE, TWO, LITERAL};
 ghost use Rattle.run.specs.Operations.{twoOf};
 ghost use Rattle.run.specs.Answers.{saysDone};
-ghost use Rattle.run.specs.Promises.{Meets, pushed, pushedCells};
+ghost use Rattle.run.specs.Promises.{Meets, cellPushed, pushedCells};
 
 // ( -- value )
 fn push(cells: &mut [u32; Machine::CELLS], value: u32, p: usize, flag: u32, next: u32) -> Done
     requires { ⌜ p ≤ cellsDepth ⌝ }
-    ensures { λ r. ⌜ (saysDone r ≡ pushed p flag next) × (now (cells .exit) ≡ pushedCells (now (cells .entry)) p value) ⌝ }
+    ensures { λ r. ⌜ (saysDone r ≡ cellPushed p flag next) × (now (cells .exit) ≡ pushedCells (now (cells .entry)) p value) ⌝ }
 {
     if Machine::CELLS <= p {
         return Done::Refused(8);

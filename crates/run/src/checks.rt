@@ -95,7 +95,7 @@ pub(crate) fn can_exit(s: usize) -> Exit
     if s == 0 {
         return Exit::Program;
     }
-    Exit::Level
+    Exit::Frame
 }
 
 // S after R>, R being lowered already: the top level goes if R is not greater than its copy.

@@ -7,7 +7,7 @@ use word::OneCell;
 ghost use Prim.Native.Nat.{_≤_, _<_};
 ghost use Rattle.links.specs.Depths.{cellsDepth};
 ghost use Rattle.run.specs.Answers.{saysDone};
-ghost use Rattle.run.specs.Promises.{Carries, Unlinked};
+ghost use Rattle.run.specs.Promises.{CarriesOut, Unlinked};
 
 // BEQ and BRA
 pub(crate) fn branches(
@@ -19,7 +19,7 @@ pub(crate) fn branches(
     flag: u32,
 ) -> Done
     requires { ⌜ (p ≤ cellsDepth) × (0x80 ≤ code) ⌝ }
-    ensures { λ r. ⌜ Carries code operand next (now (cells .entry)) p flag (now (cells .exit)) (saysDone r) ⌝ }
+    ensures { λ r. ⌜ CarriesOut code operand next (now (cells .entry)) p flag (now (cells .exit)) (saysDone r) ⌝ }
 {
     if 0xBF < code {
         return jumps::branch(cells, operand, p, flag, next);
@@ -37,7 +37,7 @@ pub(crate) fn on_cells(
     flag: u32,
 ) -> Done
     requires { ⌜ (p ≤ cellsDepth) × ((code < 0x80) × Unlinked code) ⌝ }
-    ensures { λ r. ⌜ Carries code operand next (now (cells .entry)) p flag (now (cells .exit)) (saysDone r) ⌝ }
+    ensures { λ r. ⌜ CarriesOut code operand next (now (cells .entry)) p flag (now (cells .exit)) (saysDone r) ⌝ }
 {
     match code {
         0x00 => cells::nothing(cells, p, flag, next),

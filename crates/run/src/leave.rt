@@ -61,7 +61,7 @@ pub(crate) fn by_exit(regs: Registers, exit: Exit) -> Registers
     ensures { λ g. ⌜ g ≡ haltedBy (saysExit exit) regs ⌝ }
 {
     match exit {
-        Exit::Level => regs,
+        Exit::Frame => regs,
         Exit::Program => tally::halted(regs, 0),
     }
 }

@@ -66,7 +66,7 @@ enum Checked {
 
 // What EXIT leaves: a subroutine level, or, with S = 0, the program.
 enum Exit {
-    Level,
+    Frame,
     Program,
 }
 

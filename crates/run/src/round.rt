@@ -351,7 +351,7 @@ pub(crate) fn rounds(mem: &mut [u8], start: Machine, budget: u32) -> Ran
             // EXIT
             0x3D => {
                 let exit = checks::can_exit(s);
-                let Exit::Level = exit else {
+                let Exit::Frame = exit else {
                     regs = leave::by_exit(regs, exit);
                     continue;
                 };

@@ -1,4 +1,4 @@
--- Laws of parts that stand in a state: a number that was read, a row that is filled, the fields of a record one after the other.
+-- Laws of parts that stand in a state: a number that was read, an array that is filled, the fields of a record one after the other.
 use mathlib.Core.List.{List, [], _∷_, _++_}
 use mathlib.Core.Path.{_≡_, refl, sym, ap, subst, _∙_}
 use Prim.Native.Nat.{ℕ, _+_, _*_, _≤_, _<_}
@@ -13,9 +13,9 @@ use Rattle.numbers.specs.Bytes.{numberAt}
 use Rattle.numbers.specs.Slices.{readAt}
 use Rattle.numbers.specs.Laws.Bytes.{Bytes, number-below, spelled-number}
 use Rattle.plain.specs.All.{All}
-use Rattle.state.specs.Parts.{Part, each, number, row, Field, widthOf, FieldsFit, fieldBytes, fields}
-use Rattle.state.specs.Places.{Stands}
-use Rattle.state.specs.Laws.Rows.{each-more, all-more}
+use Rattle.state.specs.Parts.{Part, each, number, array, Field, fieldsWidth, FieldsFit, fieldBytes, fields}
+use Rattle.state.specs.Places.{PartStands}
+use Rattle.state.specs.Laws.Arrays.{each-more, all-more}
 
 -- a number read inside the state
 module _ (n : ℕ) (s : List ℕ) (at : ℕ) (inside : at + n ≤ length s) where
@@ -23,7 +23,7 @@ module _ (n : ℕ) (s : List ℕ) (at : ℕ) (inside : at + n ≤ length s) wher
   unfolding readAt
   read-is = simp (le-leb (at + n) (length s) inside)
 
-  pub number-stands : Bytes s → (v : ℕ) → gives v ≡ readAt n s at → Stands (number n) s at v
+  pub number-stands : Bytes s → (v : ℕ) → gives v ≡ readAt n s at → PartStands (number n) s at v
   number-stands bytes v e =
       let read = read-is in
       let is : v ≡ numberAt n s at = cc in
@@ -47,23 +47,23 @@ followed s x y at n next m w e f hx hy =
     ∙ sym (take-add n m (drop at s))
     ∙ ap (λ (k : ℕ). take k (drop at s)) f
 
--- `Filling part s from n xs i`: of a row of n elements that is filled from its front, the first i stand in the state
+-- `Filling part s from n xs i`: of an array of n elements that is filled from its front, the first i stand in the state
 module _ {A : Type 0} (part : Part A) (s : List ℕ) (from n : ℕ) where
   pub record Filling (xs : List A) (i : ℕ) : Type 0 where
-    pub in-row : i ≤ n
+    pub in-array : i ≤ n
     pub long : length xs ≡ n
-    pub filled : Stands (row i part) s from (take i xs)
+    pub filled : PartStands (array i part) s from (take i xs)
 
   pub filling-none : (xs : List A) → length xs ≡ n → Filling xs 0
   unfolding each
   filling-none xs long =
       record {
-        in-row = omega arith;
+        in-array = omega arith;
         long = long;
         filled = record { fit = (refl, tt); spelled = ap (λ (k : ℕ). take k (drop from s)) (sym (zero-mul (part .width))) };
       }
 
-  pub filling-more : {xs : List A} {i : ℕ} → Filling xs i → i < n → (x : A) → Stands part s (from + i * part .width) x → Filling (set xs i x) (i + 1)
+  pub filling-more : {xs : List A} {i : ℕ} → Filling xs i → i < n → (x : A) → PartStands part s (from + i * part .width) x → Filling (set xs i x) (i + 1)
   filling-more {xs} {i} f less x t =
       let within : i < length xs = omega arith in
       let long : length (set xs i x) ≡ n = length-set xs i x ∙ f .long in
@@ -71,7 +71,7 @@ module _ {A : Type 0} (part : Part A) (s : List ℕ) (from n : ℕ) where
       ap (λ (k : ℕ). take k (set xs i x)) (add-one i) ∙ take-suc-set xs i x within in
       let wider : i * part .width + part .width ≡ (i + 1) * part .width = sym (suc-mul i (part .width)) ∙ ap (λ (k : ℕ). k * part .width) (sym (add-one i)) in
       record {
-        in-row = omega arith;
+        in-array = omega arith;
         long = long;
         filled =
             record {
@@ -87,42 +87,42 @@ module _ {A : Type 0} (part : Part A) (s : List ℕ) (from n : ℕ) where
             };
       }
 
-  pub filling-all : {xs : List A} {i : ℕ} → Filling xs i → n ≤ i → Stands (row n part) s from xs
+  pub filling-all : {xs : List A} {i : ℕ} → Filling xs i → n ≤ i → PartStands (array n part) s from xs
   filling-all {xs} {i} f end =
       let all : i ≡ n = omega arith in
       let long : length xs ≡ n = f .long in
-      subst (λ (k : ℕ). Stands (row k part) s from xs) all (subst (Stands (row i part) s from) (take-all i xs (omega arith)) (f .filled))
+      subst (λ (k : ℕ). PartStands (array k part) s from xs) all (subst (PartStands (array i part) s from) (take-all i xs (omega arith)) (f .filled))
 
 -- each field stands so many bytes after the place, where the one before it ends
 abbrev pub StandAfter : {A : Type 0} → List (Field A) → List ℕ → ℕ → ℕ → A → Type 0
 StandAfter [] s at n a = Unit {0}
-StandAfter (f ∷ fs) s at n a = Stands (f .part) s (at + n) (f .get a) × StandAfter fs s at (n + f .part .width) a
+StandAfter (f ∷ fs) s at n a = PartStands (f .part) s (at + n) (f .get a) × StandAfter fs s at (n + f .part .width) a
 
 after-fit : {A : Type 0} (fs : List (Field A)) (s : List ℕ) (at n : ℕ) (a : A) → StandAfter fs s at n a → FieldsFit fs a
 after-fit [] s at n a h = tt
 after-fit (f ∷ fs) s at n a h = (h .0 .fit, after-fit fs s at (n + f .part .width) a (h .1))
 
 after-spelled : {A : Type 0} (fs : List (Field A)) (s : List ℕ) (at n : ℕ) (a : A) → StandAfter fs s at n a
-    → fieldBytes fs a ≡ take (widthOf fs) (drop (at + n) s)
+    → fieldBytes fs a ≡ take (fieldsWidth fs) (drop (at + n) s)
 unfolding fieldBytes
 after-spelled [] s at n a h = refl
 after-spelled (f ∷ fs) s at n a h =
     let next : at + n + f .part .width ≡ at + (n + f .part .width) = omega arith in
-    followed s (f .part .bytes (f .get a)) (fieldBytes fs a) (at + n) (f .part .width) (at + (n + f .part .width)) (widthOf fs) (widthOf (f ∷ fs))
+    followed s (f .part .bytes (f .get a)) (fieldBytes fs a) (at + n) (f .part .width) (at + (n + f .part .width)) (fieldsWidth fs) (fieldsWidth (f ∷ fs))
     next refl (h .0 .spelled) (after-spelled fs s at (n + f .part .width) a (h .1))
 
 -- the first field at the place itself, the others after it
 abbrev pub StandAll : {A : Type 0} → List (Field A) → List ℕ → ℕ → A → Type 0
 StandAll [] s at a = Unit {0}
-StandAll (f ∷ fs) s at a = Stands (f .part) s at (f .get a) × StandAfter fs s at (f .part .width) a
+StandAll (f ∷ fs) s at a = PartStands (f .part) s at (f .get a) × StandAfter fs s at (f .part .width) a
 
-pub fields-stand : {A : Type 0} (fs : List (Field A)) (s : List ℕ) (at : ℕ) (a : A) → StandAll fs s at a → Stands (fields fs) s at a
+pub fields-stand : {A : Type 0} (fs : List (Field A)) (s : List ℕ) (at : ℕ) (a : A) → StandAll fs s at a → PartStands (fields fs) s at a
 unfolding fieldBytes
 fields-stand [] s at a h = record { fit = tt; spelled = refl }
 fields-stand (f ∷ fs) s at a h =
     record {
       fit = (h .0 .fit, after-fit fs s at (f .part .width) a (h .1));
       spelled =
-          followed s (f .part .bytes (f .get a)) (fieldBytes fs a) at (f .part .width) (at + f .part .width) (widthOf fs) (widthOf (f ∷ fs))
+          followed s (f .part .bytes (f .get a)) (fieldBytes fs a) at (f .part .width) (at + f .part .width) (fieldsWidth fs) (fieldsWidth (f ∷ fs))
           refl refl (h .0 .spelled) (after-spelled fs s at (f .part .width) a (h .1));
     }

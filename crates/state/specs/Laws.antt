@@ -1,7 +1,7 @@
 -- what the sums of the parts come to
 pub mod Sizes
--- one more element of a row
-pub mod Rows
+-- one more element of an array
+pub mod Arrays
 -- bytes are as many as the width says, and stand for one value
 pub mod Sound
 -- so it is with each part of a state

@@ -9,7 +9,7 @@ use Rattle.links.specs.declared.Links.{Links}
 use Rattle.machine.specs.declared.Machine.{Machine}
 use Rattle.machine.specs.declared.Steps.{Steps}
 use Rattle.machine.specs.declared.Cycles.{Cycles}
-use Rattle.state.specs.Parts.{Part, Field, _of_, number, row, fields}
+use Rattle.state.specs.Parts.{Part, Field, _of_, number, array, fields}
 
 abbrev pub cell : Part ℕ
 cell = number 4
@@ -19,14 +19,14 @@ pointer = number 8
 
 -- a subroutine level: its locals, the copy of R, the return address
 abbrev pub frameFields : List (Field Frame)
-frameFields = row localsCount cell of (λ f. f .locals) ∷ pointer of (λ f. f .r) ∷ cell of (λ f. f .address) ∷ []
+frameFields = array localsCount cell of (λ f. f .locals) ∷ pointer of (λ f. f .r) ∷ cell of (λ f. f .address) ∷ []
 
 abbrev pub frame : Part Frame
 frame = fields frameFields
 
 -- an exception level: its cells, the copies of S and of P, the throw address
 abbrev pub levelFields : List (Field Level)
-levelFields = row levelCells cell of (λ l. l .cells) ∷ pointer of (λ l. l .s) ∷ pointer of (λ l. l .p) ∷ cell of (λ l. l .address) ∷ []
+levelFields = array levelCells cell of (λ l. l .cells) ∷ pointer of (λ l. l .s) ∷ pointer of (λ l. l .p) ∷ cell of (λ l. l .address) ∷ []
 
 abbrev pub level : Part Level
 level = fields levelFields
@@ -34,11 +34,11 @@ level = fields levelFields
 -- the return cells and R, the subroutine levels and S, the exception levels and E
 abbrev pub linksFields : List (Field Links)
 linksFields =
-    row returnsDepth cell of (λ l. l .returns)
+    array returnsDepth cell of (λ l. l .returns)
     ∷ pointer of (λ l. l .r)
-    ∷ row framesCount frame of (λ l. l .frames)
+    ∷ array framesCount frame of (λ l. l .frames)
     ∷ pointer of (λ l. l .s)
-    ∷ row levelsCount level of (λ l. l .levels)
+    ∷ array levelsCount level of (λ l. l .levels)
     ∷ pointer of (λ l. l .e)
     ∷ []
 
@@ -48,7 +48,7 @@ links = fields linksFields
 -- the parameter cells and P, the linked stacks, the program counter, the extend flag
 abbrev pub stateFields : List (Field Machine)
 stateFields =
-    row cellsDepth cell of (λ m. m .cells)
+    array cellsDepth cell of (λ m. m .cells)
     ∷ pointer of (λ m. m .p)
     ∷ links of (λ m. m .links)
     ∷ cell of (λ m. m .counter)

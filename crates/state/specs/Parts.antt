@@ -1,4 +1,4 @@
--- How a part of a state stands in bytes: a number, a row of one kind of part, or the fields of a record.
+-- How a part of a state stands in bytes: a number, an array of one kind of part, or the fields of a record.
 use mathlib.Core.List.{List, [], _∷_, _++_}
 use mathlib.Core.Path.{_≡_}
 use Prim.Native.Nat.{ℕ, _+_, _*_, _^_, _<_}
@@ -22,8 +22,8 @@ each bytes [] = []
 each bytes (x ∷ xs) = bytes x ++ each bytes xs
 
 -- so many parts of one kind
-abbrev pub row : {A : Type 0} → ℕ → Part A → Part (List A)
-row n part =
+abbrev pub array : {A : Type 0} → ℕ → Part A → Part (List A)
+array n part =
     record {
       width = n * part .width;
       Fits = λ xs. (length xs ≡ n) × All (part .Fits) xs;
@@ -40,9 +40,9 @@ infix 68 _of_
 abbrev pub _of_ : {A B : Type 0} → Part B → (A → B) → Field A
 _of_ {A} {B} part get = record { Held = B; part = part; get = get }
 
-abbrev pub widthOf : {A : Type 0} → List (Field A) → ℕ
-widthOf [] = 0
-widthOf (f ∷ fs) = f .part .width + widthOf fs
+abbrev pub fieldsWidth : {A : Type 0} → List (Field A) → ℕ
+fieldsWidth [] = 0
+fieldsWidth (f ∷ fs) = f .part .width + fieldsWidth fs
 
 abbrev pub FieldsFit : {A : Type 0} → List (Field A) → A → Type 0
 FieldsFit [] a = Unit {0}
@@ -54,4 +54,4 @@ fieldBytes (f ∷ fs) a = f .part .bytes (f .get a) ++ fieldBytes fs a
 
 -- the fields of a record, one after the other
 abbrev pub fields : {A : Type 0} → List (Field A) → Part A
-fields fs = record { width = widthOf fs; Fits = FieldsFit fs; bytes = fieldBytes fs }
+fields fs = record { width = fieldsWidth fs; Fits = FieldsFit fs; bytes = fieldBytes fs }

@@ -63,7 +63,7 @@ pub fn give(machine: Machine, state: &mut [u8]) -> Verdict
     }
     let cells = machine.cells;
     let links = machine.links;
-    writing::put_row(state, places::STATE_CELLS, &cells);
+    writing::put_array(state, places::STATE_CELLS, &cells);
     writing::put_pointer(state, places::STATE_P, machine.p);
     writing::put_links(state, places::STATE_LINKS, links);
     writing::put_cell(state, places::STATE_COUNTER, machine.counter);

@@ -6,14 +6,14 @@ use links::Links;
 ghost use Prim.Native.Nat.{_+_, _≤_};
 ghost use lib.ListN.{length};
 ghost use Rattle.links.specs.Depths.{framesCount, levelsCount};
-ghost use Rattle.state.specs.Parts.{row};
+ghost use Rattle.state.specs.Parts.{array};
 ghost use Rattle.state.specs.Layout as layout;
-ghost use Rattle.state.specs.Places.{Stands};
+ghost use Rattle.state.specs.Places.{PartStands};
 
 // No place is outside: the answer that says so never comes.
 pub(crate) fn cell_at(state: &[u8], at: usize) -> u32
     requires { ⌜ at + layout.cell .width ≤ length (now state) ⌝ }
-    ensures { λ r. ⌜ Stands layout.cell (now (state .entry)) at r ⌝ }
+    ensures { λ r. ⌜ PartStands layout.cell (now (state .entry)) at r ⌝ }
 {
     let found = numbers::read_four(state, at);
     let numbers::Found::Number(value) = found else {
@@ -24,7 +24,7 @@ pub(crate) fn cell_at(state: &[u8], at: usize) -> u32
 
 pub(crate) fn pointer_at(state: &[u8], at: usize) -> usize
     requires { ⌜ at + layout.pointer .width ≤ length (now state) ⌝ }
-    ensures { λ r. ⌜ Stands layout.pointer (now (state .entry)) at r ⌝ }
+    ensures { λ r. ⌜ PartStands layout.pointer (now (state .entry)) at r ⌝ }
 {
     let found = numbers::read_eight(state, at);
     let numbers::FoundEight::Number(value) = found else {
@@ -35,8 +35,8 @@ pub(crate) fn pointer_at(state: &[u8], at: usize) -> usize
 
 // As many cells as there are to fill.
 pub(crate) fn fill(state: &[u8], from: usize, cells: &mut [u32])
-    requires { ⌜ from + row (length (now cells)) layout.cell .width ≤ length (now state) ⌝ }
-    ensures { λ _. ⌜ Stands (row (length (now (cells .entry))) layout.cell) (now (state .entry)) from (now (cells .exit)) ⌝ }
+    requires { ⌜ from + array (length (now cells)) layout.cell .width ≤ length (now state) ⌝ }
+    ensures { λ _. ⌜ PartStands (array (length (now (cells .entry))) layout.cell) (now (state .entry)) from (now (cells .exit)) ⌝ }
 {
     let mut i = 0;
     while i < cells.len() {
@@ -47,7 +47,7 @@ pub(crate) fn fill(state: &[u8], from: usize, cells: &mut [u32])
 
 fn frame_at(state: &[u8], at: usize) -> Frame
     requires { ⌜ at + layout.frame .width ≤ length (now state) ⌝ }
-    ensures { λ r. ⌜ Stands layout.frame (now (state .entry)) at r ⌝ }
+    ensures { λ r. ⌜ PartStands layout.frame (now (state .entry)) at r ⌝ }
 {
     let mut locals = [0u32; Frame::LOCALS];
     fill(state, at, &mut locals);
@@ -58,7 +58,7 @@ fn frame_at(state: &[u8], at: usize) -> Frame
 
 fn level_at(state: &[u8], at: usize) -> Level
     requires { ⌜ at + layout.level .width ≤ length (now state) ⌝ }
-    ensures { λ r. ⌜ Stands layout.level (now (state .entry)) at r ⌝ }
+    ensures { λ r. ⌜ PartStands layout.level (now (state .entry)) at r ⌝ }
 {
     let mut cells = [0u32; Level::CELLS];
     fill(state, at, &mut cells);
@@ -74,8 +74,8 @@ fn level_at(state: &[u8], at: usize) -> Level
 }
 
 fn frames_at(state: &[u8], from: usize) -> [Frame; Links::FRAMES]
-    requires { ⌜ from + row framesCount layout.frame .width ≤ length (now state) ⌝ }
-    ensures { λ r. ⌜ Stands (row framesCount layout.frame) (now (state .entry)) from r ⌝ }
+    requires { ⌜ from + array framesCount layout.frame .width ≤ length (now state) ⌝ }
+    ensures { λ r. ⌜ PartStands (array framesCount layout.frame) (now (state .entry)) from r ⌝ }
 {
     let fresh = Links::fresh();
     let mut frames = fresh.frames;
@@ -88,8 +88,8 @@ fn frames_at(state: &[u8], from: usize) -> [Frame; Links::FRAMES]
 }
 
 fn levels_at(state: &[u8], from: usize) -> [Level; Links::LEVELS]
-    requires { ⌜ from + row levelsCount layout.level .width ≤ length (now state) ⌝ }
-    ensures { λ r. ⌜ Stands (row levelsCount layout.level) (now (state .entry)) from r ⌝ }
+    requires { ⌜ from + array levelsCount layout.level .width ≤ length (now state) ⌝ }
+    ensures { λ r. ⌜ PartStands (array levelsCount layout.level) (now (state .entry)) from r ⌝ }
 {
     let fresh = Links::fresh();
     let mut levels = fresh.levels;
@@ -103,7 +103,7 @@ fn levels_at(state: &[u8], from: usize) -> [Level; Links::LEVELS]
 
 pub(crate) fn links_at(state: &[u8], at: usize) -> Links
     requires { ⌜ at + layout.links .width ≤ length (now state) ⌝ }
-    ensures { λ r. ⌜ Stands layout.links (now (state .entry)) at r ⌝ }
+    ensures { λ r. ⌜ PartStands layout.links (now (state .entry)) at r ⌝ }
 {
     let mut returns = [0u32; Links::RETURNS];
     fill(state, at, &mut returns);

@@ -7,28 +7,28 @@ use links::Links;
 ghost use Prim.Native.Nat.{_+_, _≤_};
 ghost use lib.ListN.{length};
 ghost use Rattle.links.specs.Depths.{framesCount, levelsCount};
-ghost use Rattle.state.specs.Parts.{row};
+ghost use Rattle.state.specs.Parts.{array};
 ghost use Rattle.state.specs.Layout as layout;
-ghost use Rattle.state.specs.Places.{Put};
+ghost use Rattle.state.specs.Places.{PartPut};
 
 pub(crate) fn put_cell(state: &mut [u8], at: usize, value: u32)
     requires { ⌜ at + layout.cell .width ≤ length (now state) ⌝ }
-    ensures { λ _. ⌜ Put layout.cell (now (state .entry)) at value (now (state .exit)) ⌝ }
+    ensures { λ _. ⌜ PartPut layout.cell (now (state .entry)) at value (now (state .exit)) ⌝ }
 {
     numbers::write_four(state, at, value);
 }
 
 pub(crate) fn put_pointer(state: &mut [u8], at: usize, value: usize)
     requires { ⌜ at + layout.pointer .width ≤ length (now state) ⌝ }
-    ensures { λ _. ⌜ Put layout.pointer (now (state .entry)) at value (now (state .exit)) ⌝ }
+    ensures { λ _. ⌜ PartPut layout.pointer (now (state .entry)) at value (now (state .exit)) ⌝ }
 {
     numbers::write_eight(state, at, value as u64);
 }
 
-// Every cell of a row, whatever its length.
-pub(crate) fn put_row(state: &mut [u8], from: usize, cells: &[u32])
-    requires { ⌜ from + row (length (now cells)) layout.cell .width ≤ length (now state) ⌝ }
-    ensures { λ _. ⌜ Put (row (length (now (cells .entry))) layout.cell) (now (state .entry)) from (now (cells .entry)) (now (state .exit)) ⌝ }
+// Every cell of an array, whatever its length.
+pub(crate) fn put_array(state: &mut [u8], from: usize, cells: &[u32])
+    requires { ⌜ from + array (length (now cells)) layout.cell .width ≤ length (now state) ⌝ }
+    ensures { λ _. ⌜ PartPut (array (length (now (cells .entry))) layout.cell) (now (state .entry)) from (now (cells .entry)) (now (state .exit)) ⌝ }
 {
     let mut i = 0;
     while i < cells.len() {
@@ -39,28 +39,28 @@ pub(crate) fn put_row(state: &mut [u8], from: usize, cells: &[u32])
 
 fn put_frame(state: &mut [u8], at: usize, frame: Frame)
     requires { ⌜ at + layout.frame .width ≤ length (now state) ⌝ }
-    ensures { λ _. ⌜ Put layout.frame (now (state .entry)) at frame (now (state .exit)) ⌝ }
+    ensures { λ _. ⌜ PartPut layout.frame (now (state .entry)) at frame (now (state .exit)) ⌝ }
 {
     let locals = frame.locals;
-    put_row(state, at, &locals);
+    put_array(state, at, &locals);
     put_pointer(state, at + places::FRAME_R, frame.r);
     put_cell(state, at + places::FRAME_ADDRESS, frame.address);
 }
 
 fn put_level(state: &mut [u8], at: usize, level: Level)
     requires { ⌜ at + layout.level .width ≤ length (now state) ⌝ }
-    ensures { λ _. ⌜ Put layout.level (now (state .entry)) at level (now (state .exit)) ⌝ }
+    ensures { λ _. ⌜ PartPut layout.level (now (state .entry)) at level (now (state .exit)) ⌝ }
 {
     let cells = level.cells;
-    put_row(state, at, &cells);
+    put_array(state, at, &cells);
     put_pointer(state, at + places::LEVEL_S, level.s);
     put_pointer(state, at + places::LEVEL_P, level.p);
     put_cell(state, at + places::LEVEL_ADDRESS, level.address);
 }
 
 fn put_frames(state: &mut [u8], from: usize, frames: [Frame; Links::FRAMES])
-    requires { ⌜ from + row framesCount layout.frame .width ≤ length (now state) ⌝ }
-    ensures { λ _. ⌜ Put (row framesCount layout.frame) (now (state .entry)) from frames (now (state .exit)) ⌝ }
+    requires { ⌜ from + array framesCount layout.frame .width ≤ length (now state) ⌝ }
+    ensures { λ _. ⌜ PartPut (array framesCount layout.frame) (now (state .entry)) from frames (now (state .exit)) ⌝ }
 {
     let mut i = 0;
     while i < Links::FRAMES {
@@ -71,8 +71,8 @@ fn put_frames(state: &mut [u8], from: usize, frames: [Frame; Links::FRAMES])
 }
 
 fn put_levels(state: &mut [u8], from: usize, levels: [Level; Links::LEVELS])
-    requires { ⌜ from + row levelsCount layout.level .width ≤ length (now state) ⌝ }
-    ensures { λ _. ⌜ Put (row levelsCount layout.level) (now (state .entry)) from levels (now (state .exit)) ⌝ }
+    requires { ⌜ from + array levelsCount layout.level .width ≤ length (now state) ⌝ }
+    ensures { λ _. ⌜ PartPut (array levelsCount layout.level) (now (state .entry)) from levels (now (state .exit)) ⌝ }
 {
     let mut i = 0;
     while i < Links::LEVELS {
@@ -84,12 +84,12 @@ fn put_levels(state: &mut [u8], from: usize, levels: [Level; Links::LEVELS])
 
 pub(crate) fn put_links(state: &mut [u8], at: usize, links: Links)
     requires { ⌜ at + layout.links .width ≤ length (now state) ⌝ }
-    ensures { λ _. ⌜ Put layout.links (now (state .entry)) at links (now (state .exit)) ⌝ }
+    ensures { λ _. ⌜ PartPut layout.links (now (state .entry)) at links (now (state .exit)) ⌝ }
 {
     let returns = links.returns;
     let frames = links.frames;
     let levels = links.levels;
-    put_row(state, at, &returns);
+    put_array(state, at, &returns);
     put_pointer(state, at + places::LINKS_R, links.r);
     put_frames(state, at + places::LINKS_FRAMES, frames);
     put_pointer(state, at + places::LINKS_S, links.s);

@@ -1,4 +1,4 @@
--- Sign extension by a turn: half a field's range is added, wrapped at the range and taken off again.
+-- Sign extension by wrapping: half a field's range is added, wrapped at the range and taken off again.
 use mathlib.Core.Path.{_≡_, _∙_, ap}
 use Prim.Native.Nat.{ℕ, zero, suc, _+_, _-_, _*_, _/_, _^_, _%_, _≤_, _<_}
 use native.Mathlib.Nat.{mod-eq-of-lt, add-mod-right, mod-lt, zero-mul, zero-add, add-zero, add-right-cancel}

@@ -8,7 +8,7 @@ use Rattle.word.specs.Products.{wide}
 spread : (a b c d : ℕ) → (a + b) * (c + d) ≡ a * c + a * d + (b * c + b * d)
 spread a b c d = add-mul a b (c + d) ∙ ap₂ (λ (m n : ℕ). m + n) (mul-add a c d) (mul-add b c d)
 
--- the bits above the low word
+-- the bits above the low cell
 abbrev fill : ℕ
 fill = 2 ^ 64 - 2 ^ 32
 
@@ -26,7 +26,7 @@ quotient-le l u h = omega arith
 linear : (p h lo u v d l r q t k : ℕ) → p ≡ h * 2 ^ 32 + lo → l + u ≡ h + q * 2 ^ 32 → r + v ≡ l + t * 2 ^ 32 → k + q + t ≡ u + v + d → p + v * fill + (u * fill + d * 2 ^ 64) ≡ lo + r * 2 ^ 32 + k * 2 ^ 64
 linear p h lo u v d l r q t k one two three four = omega arith
 
--- the high word loses u, then v
+-- the high cell loses u, then v
 lowered : (p u v d l r : ℕ) → l < 2 ^ 32 → r < 2 ^ 32 → (l + u) % 2 ^ 32 ≡ p / 2 ^ 32 → (r + v) % 2 ^ 32 ≡ l → (p + v * fill + (u * fill + d * 2 ^ 64)) % 2 ^ 64 ≡ p % 2 ^ 32 + r * 2 ^ 32
 lowered p u v d l r hl hr e f =
     let q = (l + u) / 2 ^ 32 in

@@ -6,11 +6,11 @@ use Rattle.word.specs.declared.Outcome.{Outcome}
 use Rattle.word.specs.declared.Outcome.the-variants.{Single, Double, DivisorZero}
 
 -- the cells that are left, deepest first, and the flag
-pub data Left : Type 0 where
-  leaves : List ℕ → ℕ → Left
+pub data CellsLeft : Type 0 where
+  leaves : List ℕ → ℕ → CellsLeft
 
 -- answer 13: divisor zero
-abbrev pub saysOutcome : Outcome → Answer Left
+abbrev pub saysOutcome : Outcome → Answer CellsLeft
 saysOutcome (Single value flag) = gives (leaves (value ∷ []) flag)
 saysOutcome (Double lower upper flag) = gives (leaves (lower ∷ upper ∷ []) flag)
 saysOutcome DivisorZero = refuses 13

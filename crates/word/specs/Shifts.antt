@@ -18,6 +18,6 @@ shiftRightOf x flag = record { value = x / 2; flag = flag }
 abbrev pub extendByteOf : ℕ → ℕ → Changed
 extendByteOf x flag = record { value = x % 2 ^ 8 + x / 2 ^ 7 % 2 * (2 ^ 32 - 2 ^ 8); flag = flag }
 
--- XWORD: the low word, and bit 15 in each bit above it
+-- XWORD: the low two bytes, and bit 15 in each bit above it
 abbrev pub extendWordOf : ℕ → ℕ → Changed
 extendWordOf x flag = record { value = x % 2 ^ 16 + x / 2 ^ 15 % 2 * (2 ^ 32 - 2 ^ 16); flag = flag }

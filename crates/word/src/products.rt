@@ -1,4 +1,4 @@
-// Products of 64 bits: the low word under, the high word on top; the flag stays.
+// Products of 64 bits: the low cell under, the high cell on top; the flag stays.
 ghost use mathlib.Core.Path.{_≡_};
 ghost use Prim.Native.Nat.{_*_, _/_, _^_};
 ghost use Rattle.word.specs.Products.{multiplySignedOf, multiplyUnsignedOf};
@@ -6,14 +6,14 @@ ghost use Rattle.word.specs.Outcomes.{saysOutcome};
 use crate::HALF;
 use crate::Outcome;
 
-// The other factor where x is negative: what x then takes off the high word.
+// The other factor where x is negative: what x then takes off the high cell.
 fn if_negative(x: u32, other: u32) -> u32
     ensures { λ r. ⌜ r ≡ x / 2 ^ 31 * other ⌝ }
 {
     if x < HALF { 0 } else { other }
 }
 
-// MULTS ( x y -- low high ): the unsigned product, with each factor taken off the high word where the other is negative.
+// MULTS ( x y -- low high ): the unsigned product, with each factor taken off the high cell where the other is negative.
 pub fn multiply_signed(x: u32, y: u32, flag: u32) -> Outcome
     ensures { λ r. ⌜ saysOutcome r ≡ saysOutcome (multiplySignedOf x y flag) ⌝ }
 {

@@ -43,7 +43,7 @@ pub fn extend_byte(x: u32, flag: u32) -> Changed
     }
 }
 
-// XWORD ( x -- z ): the same with the word's range.
+// XWORD ( x -- z ): the same with the range of two bytes.
 pub fn extend_word(x: u32, flag: u32) -> Changed
     ensures { λ r. ⌜ r ≡ extendWordOf x flag ⌝ }
 {

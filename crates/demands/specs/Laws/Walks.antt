@@ -8,7 +8,7 @@ use Rattle.plain.specs.Choice.{both, not}
 use Rattle.plain.specs.Laws.Choice.{both-parts}
 use Rattle.machine.specs.Step.{Stepped, refused, done, stepOf}
 use Rattle.machine.specs.Run.{runFrom, runOf, acceptable}
-use Rattle.demands.specs.History.{World, world, left, codeAt, pointerE, Moment, Resets, step, host, History, here, then, Above}
+use Rattle.demands.specs.History.{World, world, worldAfter, codeAt, pointerE, Moment, Resets, step, host, History, here, then, StaysAbove}
 use Rattle.demands.specs.Walk.{reached, ahead, walk}
 use Rattle.demands.specs.Theorems.Two.{starts, spends, goes-on}
 
@@ -37,17 +37,17 @@ goes zero w = true
 goes (suc n) w = both (isDone (stepAt w)) (goes n (ahead w))
 
 -- so a run of n leaves what a walk of n steps does
-walk-rest : (n : ℕ) (w : World) (steps cycles : ℕ) → T (goes n w) → left (runFrom n (w .memory) (w .machine) steps cycles) ≡ walk n w
+walk-rest : (n : ℕ) (w : World) (steps cycles : ℕ) → T (goes n w) → worldAfter (runFrom n (w .memory) (w .machine) steps cycles) ≡ walk n w
 unfolding goes walk
-walk-rest zero w steps cycles t = ap left (spends (w .memory) (w .machine) steps cycles)
+walk-rest zero w steps cycles t = ap worldAfter (spends (w .memory) (w .machine) steps cycles)
 walk-rest (suc n) w steps cycles t =
     let p = both-parts (isDone (stepAt w)) (goes n (ahead w)) t in
-    ap left (goes-on (w .memory) (w .machine) steps cycles n (ahead w .memory) (ahead w .machine) _ (ahead-step w (p .0))) ∙
+    ap worldAfter (goes-on (w .memory) (w .machine) steps cycles n (ahead w .memory) (ahead w .machine) _ (ahead-step w (p .0))) ∙
     walk-rest n (ahead w) (suc steps) _ (p .1)
 
 pub run-walks : (n : ℕ) (w : World) → acceptable (w .memory) (w .machine) n ≡ true → T (goes n w) →
-    left (runOf (w .memory) (w .machine) n) ≡ walk n w
-run-walks n w ok t = ap left (starts (w .memory) (w .machine) n ok) ∙ walk-rest n w 0 0 t
+    worldAfter (runOf (w .memory) (w .machine) n) ≡ walk n w
+run-walks n w ok t = ap worldAfter (starts (w .memory) (w .machine) n ok) ∙ walk-rest n w 0 0 t
 
 -- n steps with E above the limit from the first to the last
 unfoldable pub calm : ℕ → ℕ → World → Bool
@@ -56,7 +56,7 @@ calm limit (suc n) w = both (ltb limit (pointerE w)) (both (isDone (stepAt w)) (
 
 pub record Walked (limit : ℕ) (w v : World) : Type 0 where
   pub history : History w v
-  pub above : Above limit history
+  pub above : StaysAbove limit history
 
 abbrev pub ahead-moment : (w : World) → T (isDone (stepAt w)) → Moment w (ahead w)
 ahead-moment w t = step _ (ahead-step w t)
@@ -78,7 +78,7 @@ walked limit (suc n) w t =
     }
 
 -- one walk, the host's change of memory, and one more walk
-pub host-between : (limit : ℕ) {w u v : World} (memory : List ℕ) (h : History w u) → Above limit h →
+pub host-between : (limit : ℕ) {w u v : World} (memory : List ℕ) (h : History w u) → StaysAbove limit h →
     Walked limit (world memory (u .machine)) v → Walked limit w v
 host-between limit memory here above rest =
     record { history = then (host refl) (rest .history); above = (above, rest .above) }

@@ -10,7 +10,7 @@ use Rattle.machine.specs.Run.{After, ended, runFrom, runOf, acceptable}
 use Rattle.machine.specs.Laws.Kept.{formed-true}
 use Rattle.machine.specs.Laws.Accepted.{taken}
 use Rattle.machine.specs.declared.Machine.{Machine}
-use Rattle.demands.specs.History.{World, world, left, step, host, History, here, then, joined, stepsIn, Resets}
+use Rattle.demands.specs.History.{World, world, worldAfter, step, host, History, here, then, joined, stepsIn, Resets}
 use Rattle.demands.specs.Back.{Loses, through, Back}
 use Rattle.demands.specs.Sessions.{Given, ranBy, RunHistory, Follows, none, next, SessionHistory}
 use Rattle.demands.specs.Laws.Course.{course}
@@ -36,7 +36,7 @@ pub session-history : (w : World) (runs : List Given) → SessionHistory w runs
 session-history w [] = record { history = here; follows = none }
 session-history w (g ∷ gs) =
     let now = run-history (g .memory) (w .machine) (g .budget) in
-    let later = session-history (left (ranBy w g)) gs in
+    let later = session-history (worldAfter (ranBy w g)) gs in
     record { history = then (host refl) (joined (now .history) (later .history)); follows = next now (later .follows) }
 
 -- a machine that is not well formed is handed back by every run, with no step

@@ -4,17 +4,17 @@ use mathlib.Core.Logic.{_⊎_, ⊎-elim}
 use Prim.Native.Nat.{ℕ, _<_}
 use native.Mathlib.Omega.{arith}
 use Rattle.machine.specs.Laws.Kept.{formed}
-use Rattle.demands.specs.History.{World, pointerE, Resets, History, here, then, Above, Accepted}
+use Rattle.demands.specs.History.{World, pointerE, Resets, History, here, then, StaysAbove, Accepted}
 use Rattle.demands.specs.Back.{Loses, Back}
 use Rattle.demands.specs.Laws.Histories.{history-kept}
 use Rattle.demands.specs.Laws.Stood.{Stood, catch-stood, moment-next, reset-down}
 
-first-above : (n : ℕ) {w v : World} (h : History w v) → Above n h → n < pointerE w
+first-above : (n : ℕ) {w v : World} (h : History w v) → StaysAbove n h → n < pointerE w
 first-above n here a = a
 first-above n (then moment rest) a = a .0
 
 -- what the CATCH pushed stands as long as E is above the old E; so no RESETSP is among those moments
-stood-through : (o : World) {w v : World} → Stood o w → (h : History w v) → Above (pointerE o) h → Stood o v
+stood-through : (o : World) {w v : World} → Stood o w → (h : History w v) → StaysAbove (pointerE o) h → Stood o v
 stood-through o s here above = s
 stood-through o {w} s (then {u = x} moment rest) above =
     let up = first-above (pointerE o) rest (above .1) in

@@ -12,9 +12,9 @@ use Rattle.machine.specs.Fetch.{instructionAt}
 use Rattle.machine.specs.Rows.{top}
 use Rattle.machine.specs.Checks.{Test}
 use Rattle.machine.specs.Step.{Stepped, refused, done, put, costOf, rowAt, testsAt, stepOf}
-use Rattle.machine.specs.Run.{After, ended, runFrom, runOf, acceptable, Counted}
+use Rattle.machine.specs.Run.{After, ended, runFrom, runOf, acceptable, CyclesBounded}
 use Rattle.machine.specs.Laws.Passed.{step-done}
-use Rattle.machine.specs.Laws.Costs.{counted, cycle-at, cycle-branch}
+use Rattle.machine.specs.Laws.Costs.{run-bounded, cycle-at, cycle-branch}
 use Rattle.machine.specs.Laws.Prices.{by-code, zero-thrown}
 use Rattle.machine.specs.Laws.Kept.{step-kept}
 use Rattle.machine.specs.declared.Machine.{Machine}
@@ -96,12 +96,12 @@ unfolding instructionAt
 by-throw-of-zero w is z = zero-thrown (instructionAt (w .memory) (w .machine .counter)) (w .machine) is z
 
 -- From n to 42n cycles for n steps.
-pub bounded : (mem : List ℕ) (m : Machine) (budget : ℕ) → Counted (runOf mem m budget)
+pub bounded : (mem : List ℕ) (m : Machine) (budget : ℕ) → CyclesBounded (runOf mem m budget)
 unfolding runOf
 bounded mem m budget = go (acceptable mem m budget)
   where
-    go : (b : Bool) → Counted (elim b as (λ x. After) [ true ↦ runFrom budget mem m 0 0 | false ↦ ended 2 mem m 0 0 ])
-    go true = counted budget mem m 0 0 (omega arith) (omega arith)
+    go : (b : Bool) → CyclesBounded (elim b as (λ x. After) [ true ↦ runFrom budget mem m 0 0 | false ↦ ended 2 mem m 0 0 ])
+    go true = run-bounded budget mem m 0 0 (omega arith) (omega arith)
     go false = record { least = omega arith; most = omega arith }
 
 -- The tests stand in the order of the numbers, 0 first.

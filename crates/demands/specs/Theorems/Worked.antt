@@ -9,7 +9,7 @@ use Rattle.machine.specs.Limits.{memoryLength}
 use Rattle.machine.specs.State.{freshMachine, machineWith}
 use Rattle.machine.specs.Rows.{top}
 use Rattle.machine.specs.Run.{runOf, acceptable}
-use Rattle.demands.specs.History.{World, left, codeAt, pointerE, here, then}
+use Rattle.demands.specs.History.{World, worldAfter, codeAt, pointerE, here, then}
 use Rattle.demands.specs.Back.{Way, by-exit, by-pop, by-throw, Seen}
 use Rattle.demands.specs.Walk.{ahead, walk}
 use Rattle.demands.specs.Cases.{start, atCatch}
@@ -78,11 +78,11 @@ pub worked-code : top (end .machine) ≡ 9
 worked-code = thrown-on-top (atCatch code) last end (worked .back .way) (worked .by) ∙ eqb→eq (top (last .machine)) 9 (holds .nine)
 
 -- and it ends a second run of 4 steps, after a first of 6
-pub first-run : left (runOf (padded memoryLength code) freshMachine 6) ≡ paused
+pub first-run : worldAfter (runOf (padded memoryLength code) freshMachine 6) ≡ paused
 first-run = run-walks 6 (start code) (is-true _ (holds .one-taken)) (holds .one-goes)
 
-pub second-run : left (runOf (padded memoryLength changed) (left (runOf (padded memoryLength code) freshMachine 6) .machine) 4) ≡ end
+pub second-run : worldAfter (runOf (padded memoryLength changed) (worldAfter (runOf (padded memoryLength code) freshMachine 6) .machine) 4) ≡ end
 unfolding walk
 second-run =
-    ap (λ (w : World). left (runOf (padded memoryLength changed) (w .machine) 4)) first-run ∙
+    ap (λ (w : World). worldAfter (runOf (padded memoryLength changed) (w .machine) 4)) first-run ∙
     run-walks 4 resumed (is-true _ (holds .two-taken)) (holds .two-goes)

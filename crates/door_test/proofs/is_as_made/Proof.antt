@@ -1,4 +1,4 @@
--- The measure is what is left of the memory; nothing has to hold from turn to turn.
+-- The measure is what is left of the memory; nothing has to hold from pass to pass.
 use Prim.Native.Nat.{_-_}
 use lib.ListN.{length}
 use borrow.Author.Needs.{needs}

@@ -11,7 +11,7 @@ use Rattle.plain.specs.Answer.{Answer, refuses, gives}
 use Rattle.plain.specs.Choice.{pick}
 use Rattle.machine.specs.Run.{runOf}
 use Rattle.machine.specs.declared.Ran.{Ran}
-use Rattle.image.specs.Loading.{Handed, Read, wrong-memory, not-spelled, read, refusedWith, loadedFrom}
+use Rattle.image.specs.Loading.{Returned, Read, wrong-memory, not-spelled, read, refusedWith, loadedFrom}
 use Rattle.report.specs.Printing.{Reported, printedIn, reportOf, refusalOf, untouched}
 use Rattle.links.specs.Depths.{cellsDepth}
 use Rattle.report.specs.Text.{textOf, refusalText}
@@ -44,18 +44,18 @@ report-apart ran out = by-test (leb (ran .machine .p) cellsDepth) refl
     by-test false e = refl
 
 -- by what the reader may have answered
-read-apart : (image before after out : List ℕ) (handed : Handed) → Read image before after handed
-    → Apart (benchOf (record { memory = after; handed = handed }) out .printed)
+read-apart : (image before after out : List ℕ) (returned : Returned) → Read image before after returned
+    → Apart (benchOf (record { memory = after; returned = returned }) out .printed)
 unfolding benchOf refusedWith loadedFrom refusalOf
-read-apart image before after out handed (wrong-memory h) = refl
-read-apart image before after out handed (not-spelled h none) =
+read-apart image before after out returned (wrong-memory h) = refl
+read-apart image before after out returned (not-spelled h none) =
     let three : length (refusalText 14) ≡ 3 = ap length sample-refusal in
     printed-apart (refusalText 14) out (omega arith)
-read-apart image before after out handed (read i h allowed spells) = report-apart (runOf _ _ _ .ran) out
+read-apart image before after out returned (read i h spellable spells) = report-apart (runOf _ _ _ .ran) out
 
 pub bench-apart : (image memory out : List ℕ) (done : Benched) → Benches image memory out done → Apart (done .printed)
 bench-apart image memory out done h =
-    subst (λ (d : Benched). Apart (d .printed)) (sym (h .comes-to)) (read-apart image memory (h .reading .memory) out (h .reading .handed) (h .is-read))
+    subst (λ (d : Benched). Apart (d .printed)) (sym (h .comes-to)) (read-apart image memory (h .reading .memory) out (h .reading .returned) (h .is-read))
 
 -- a host's number is 2 for every refusal and for nothing else
 pub two-is-refused : (image memory out : List ℕ) (done : Benched) → Benches image memory out done → numberOf (done .printed) ≡ 2 → done .printed ≡ refuses 2

@@ -14,7 +14,7 @@ use Rattle.glidecotton.specs.Host.{Hosted, Hosts, hosted}
 
 only-benched : (image memory out : List ℕ) (a b : Benched) → Benches image memory out a → Benches image memory out b → a ≡ b
 only-benched image memory out a b h k =
-    let same = only-reading image memory (h .reading .memory) (k .reading .memory) (h .reading .handed) (k .reading .handed) (h .is-read) (k .is-read) in
+    let same = only-reading image memory (h .reading .memory) (k .reading .memory) (h .reading .returned) (k .reading .returned) (h .is-read) (k .is-read) in
     h .comes-to ∙ ap (λ (read : Reading). benchOf read out) same ∙ sym (k .comes-to)
 
 pub only-bench : (image memory out : List ℕ) (a b : Printed) (m n x y : List ℕ)
@@ -35,4 +35,4 @@ only-host image memory out a b h k =
 -- for an image of bytes the one answer can be computed
 pub bench-computed : (image memory out : List ℕ) (done : Benched) → Bytes image → Benches image memory out done → done ≡ benchOf (readOf image memory) out
 bench-computed image memory out done bytes h =
-    h .comes-to ∙ ap (λ (read : Reading). benchOf read out) (computed image memory (h .reading .memory) (h .reading .handed) bytes (h .is-read))
+    h .comes-to ∙ ap (λ (read : Reading). benchOf read out) (computed image memory (h .reading .memory) (h .reading .returned) bytes (h .is-read))

@@ -13,28 +13,28 @@ use Rattle.state.specs.Layout as layout
 use Rattle.state.specs.Laws.Spelling.{state-sound}
 use Rattle.host.specs.Handed.{Handed, Hands, wrong-length, run, handedBack}
 use Rattle.host.specs.Read.{RunsRead}
-use Rattle.reader.specs.Reads.{Left, Reads, refused, read}
+use Rattle.reader.specs.Reads.{HandedOut, Reads, refused, read}
 use Rattle.reader.specs.Reads as reads
 
 -- no refusal of the reader is taken for a good image
-refusal-not-zero : (file before after : List ℕ) (h : loading.Handed) (number : ℕ) → Read file before after h → h .says ≡ refuses number → number ≡ 0 → ⊥
+refusal-not-zero : (file before after : List ℕ) (h : loading.Returned) (number : ℕ) → Read file before after h → h .says ≡ refuses number → number ≡ 0 → ⊥
 unfolding refusedWith loadedFrom
 refusal-not-zero file before after h number (wrong-memory other) e zero = let z : _≡_ {A = ℕ} 2 0 = cc in omega arith
 refusal-not-zero file before after h number (not-spelled long none) e zero = let z : _≡_ {A = ℕ} 14 0 = cc in omega arith
 refusal-not-zero file before after h number (loading.read i long allowed spells) e zero = let z : _≡_ {A = ℕ} 0 1 = cc in omega arith
 
 module _ (image memory state result : List ℕ) (budget : ℕ) (counts : List ℕ) where
-  pub read-then-run : (a : Left) (b : Handed) → Reads image memory state result a → a .number ≡ 0 → length counts ≡ layout.result .width
+  pub read-then-run : (a : HandedOut) (b : Handed) → Reads image memory state result a → a .number ≡ 0 → length counts ≡ layout.result .width
       → Hands (a .state) (a .memory) budget counts b → RunsRead image memory budget b
   unfolding refusedWith
   read-then-run a b (reads.wrong-length h) zero long hands = absurd (omega arith)
   read-then-run a b (refused number all too is) zero long hands =
       absurd (refusal-not-zero image memory memory (refusedWith number) number is (λ i. refuses number) zero)
-  read-then-run a b (read r all too is good fits small) zero long (wrong-length h) = absurd (h (state-sound .long (r .handed .machine) fits, long))
+  read-then-run a b (read r all too is good fits small) zero long (wrong-length h) = absurd (h (state-sound .long (r .returned .machine) fits, long))
   read-then-run a b (read r all too is good fits small) zero long (run m also same fit spells left) =
       record {
         reading = r;
         is-read = is;
         good = good;
-        runs = ap (λ (x : Machine). handedBack (runOf (r .memory) x budget)) (state-sound .only m (r .handed .machine) fit fits spells);
+        runs = ap (λ (x : Machine). handedBack (runOf (r .memory) x budget)) (state-sound .only m (r .returned .machine) fit fits spells);
       }

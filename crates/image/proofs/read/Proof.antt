@@ -22,8 +22,8 @@ returns c =
 judge-requires : tie.Need-judge-requires
 judge-requires c κs = search needs
 
-enum-known-parts : tie.Need-enum-known-parts
-enum-known-parts c = search needs
+enum-known-spans : tie.Need-enum-known-spans
+enum-known-spans c = search needs
 
 enum-told : tie.Need-enum-told
 enum-told c = search needs
@@ -41,7 +41,7 @@ image-requires : tie.Need-image-requires
 image-requires c κs =
     let start = c .before .before .before .before .before .before .before .before in
     let long : length (start .args .memory .now) ≡ memoryLength = omega arith in
-    (good-file (start .args .file .now) _ (sym (c .before .before .before .before .judge .ensures .clause) ∙ ap saysJudged (c .before .before .parts .given .1)), long)
+    (good-file (start .args .file .now) _ (sym (c .before .before .before .before .judge .ensures .clause) ∙ ap saysJudged (c .before .before .spans .given .1)), long)
 
 same-length : tie.Need-same-length
 same-length c = search needs
@@ -51,7 +51,7 @@ returns-3 c =
     let start = c .before .before .before .before .before .before .before .before .before .before .before in
     let long : length (start .args .memory .now) ≡ memoryLength = omega arith in
     let known = c .before .before .before .before .before .before .before .before .before .before .shared-slice-known in
-    good-answer (start .args .file .now) (start .args .memory .now) _ _ _ (λ i. known .given i .fits) long (sym (c .before .before .before .before .before .before .before .judge .ensures .clause) ∙ ap saysJudged (c .before .before .before .before .before .parts .given .1))
+    good-answer (start .args .file .now) (start .args .memory .now) _ _ _ (λ i. known .given i .fits) long (sym (c .before .before .before .before .before .before .before .judge .ensures .clause) ∙ ap saysJudged (c .before .before .before .before .before .spans .given .1))
     (c .before .before .image .ensures .0) (c .before .before .image .ensures .1)
 
 pub read-spec : {M : Type 1} → statement M
@@ -61,7 +61,7 @@ read-spec =
     refused-requires
     returns
     judge-requires
-    enum-known-parts
+    enum-known-spans
     enum-told
     refused-requires-2
     returns-2

@@ -1,9 +1,9 @@
 -- What the answer about one section says: the reader's own, which no promise to others speaks of.
-use Rattle.image.specs.Judging.{badFile, Finding, fails, stands}
-use Rattle.image.specs.declared.Part.{Part}
+use Rattle.image.specs.Judging.{badFile, Finding, fails, finds}
+use Rattle.image.specs.declared.Span.{Span}
 use Rattle.image.specs.declared.Met.{Met}
-use Rattle.image.specs.declared.Met.the-variants.{Bad, Whole}
+use Rattle.image.specs.declared.Met.the-variants.{Bad, Good}
 
-abbrev pub saysMet : Met → Finding Part
+abbrev pub saysMet : Met → Finding Span
 saysMet (Bad fault) = fails badFile fault
-saysMet (Whole part) = stands part
+saysMet (Good span) = finds span

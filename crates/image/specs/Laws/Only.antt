@@ -4,9 +4,9 @@ use mathlib.Core.Path.{_≡_, refl, sym, ap, _∙_}
 use Prim.Native.Nat.{ℕ}
 use Rattle.machine.specs.Limits.{memoryLength}
 use Rattle.plain.specs.Zeros.{padded}
-use Rattle.image.specs.Format.{Image, Allowed, spelled, limits, longestFile}
-use Rattle.image.specs.Loading.{saysVerdict, Handed, handed, Reading, Read, wrong-memory, not-spelled, read, loadedFrom}
-use Rattle.image.specs.Judging.{stands, saysJudged, judgedOf, partsOf, Judges}
+use Rattle.image.specs.Format.{Image, Spellable, spelled, limits, longestFile}
+use Rattle.image.specs.Loading.{saysVerdict, Returned, returned, Reading, Read, wrong-memory, not-spelled, read, loadedFrom}
+use Rattle.image.specs.Judging.{finds, saysJudged, judgedOf, spansOf, Judges}
 use Rattle.image.specs.Laws.Sound.{imageIn}
 use Rattle.image.specs.Laws.Complete.{found, accepted}
 use Rattle.image.specs.declared.Section.{Section}
@@ -17,13 +17,13 @@ use Rattle.image.specs.declared.Loaded.{Loaded}
 use Rattle.image.specs.declared.Verdict.{Verdict}
 use Rattle.image.specs.declared.Verdict.the-variants as verdict
 
-pub only-image : (i j : Image) → Allowed i → Allowed j → spelled i ≡ spelled j → i ≡ j
+pub only-image : (i j : Image) → Spellable i → Spellable j → spelled i ≡ spelled j → i ≡ j
 only-image i j a b e =
-    let same : stands (partsOf i) ≡ stands (partsOf j) = sym (accepted i a) ∙ ap judgedOf e ∙ accepted j b in
-    let parts : partsOf i ≡ partsOf j = cc in
+    let same : finds (spansOf i) ≡ finds (spansOf j) = sym (accepted i a) ∙ ap judgedOf e ∙ accepted j b in
+    let spans : spansOf i ≡ spansOf j = cc in
     sym (found i a)
-    ∙ ap (λ (l : List ℕ). imageIn l (partsOf i)) e
-    ∙ ap (imageIn (spelled j)) parts
+    ∙ ap (λ (l : List ℕ). imageIn l (spansOf i)) e
+    ∙ ap (imageIn (spelled j)) spans
     ∙ found j b
 
 pub only-limits : (s : Section) (a b : Limits) → a ≡ limits s → b ≡ limits s → a ≡ b
@@ -41,8 +41,8 @@ same-judged (judged.Good p) (judged.Good q) e = cc
 pub only-judge : (file : List ℕ) (a b : Judged) → Judges file a → Judges file b → a ≡ b
 only-judge file a b h k = same-judged a b (h .clause ∙ sym (k .clause))
 
-pub only-reading : (file before m₁ m₂ : List ℕ) (h₁ h₂ : Handed) → Read file before m₁ h₁ → Read file before m₂ h₂
-    → _≡_ {A = Reading} (record { memory = m₁; handed = h₁ }) (record { memory = m₂; handed = h₂ })
+pub only-reading : (file before m₁ m₂ : List ℕ) (h₁ h₂ : Returned) → Read file before m₁ h₁ → Read file before m₂ h₂
+    → _≡_ {A = Reading} (record { memory = m₁; returned = h₁ }) (record { memory = m₂; returned = h₂ })
 only-reading file before m₁ m₂ h₁ h₂ (wrong-memory h) (wrong-memory k) = refl
 only-reading file before m₁ m₂ h₁ h₂ (wrong-memory h) (not-spelled e n) = absurd (h e)
 only-reading file before m₁ m₂ h₁ h₂ (wrong-memory h) (read j e b s) = absurd (h e)
@@ -52,7 +52,7 @@ only-reading file before m₁ m₂ h₁ h₂ (not-spelled e n) (read j f b s) = 
 only-reading file before m₁ m₂ h₁ h₂ (read i e a s) (wrong-memory h) = absurd (h e)
 only-reading file before m₁ m₂ h₁ h₂ (read i e a s) (not-spelled f n) = absurd (n i a s)
 only-reading file before m₁ m₂ h₁ h₂ (read i e a s) (read j f b t) =
-    ap (λ (x : Image). record { memory = padded memoryLength (x .memory); handed = loadedFrom x }) (only-image i j a b (s ∙ sym t))
+    ap (λ (x : Image). record { memory = padded memoryLength (x .memory); returned = loadedFrom x }) (only-image i j a b (s ∙ sym t))
 
 same-verdict : (a b : Verdict) → saysVerdict a ≡ saysVerdict b → a ≡ b
 same-verdict verdict.Good verdict.Good e = refl
@@ -60,10 +60,10 @@ same-verdict verdict.Good (verdict.Refused m) e = cc
 same-verdict (verdict.Refused n) verdict.Good e = cc
 same-verdict (verdict.Refused n) (verdict.Refused m) e = cc
 
-pub only-read : (file before x y : List ℕ) (a b : Loaded) → Read file before x (handed a) → Read file before y (handed b) → (x ≡ y) × (a ≡ b)
+pub only-read : (file before x y : List ℕ) (a b : Loaded) → Read file before x (returned a) → Read file before y (returned b) → (x ≡ y) × (a ≡ b)
 only-read file before x y a b h k =
-    let same = only-reading file before x y (handed a) (handed b) h k in
-    let v = same-verdict (a .verdict) (b .verdict) (ap (λ (r : Reading). r .handed .says) same) in (
+    let same = only-reading file before x y (returned a) (returned b) h k in
+    let v = same-verdict (a .verdict) (b .verdict) (ap (λ (r : Reading). r .returned .says) same) in (
       ap (λ (r : Reading). r .memory) same,
-      λ i. record { verdict = v i; machine = same i .handed .machine; budget = same i .handed .budget },
+      λ i. record { verdict = v i; machine = same i .returned .machine; budget = same i .returned .budget },
     )

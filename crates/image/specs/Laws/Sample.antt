@@ -1,7 +1,7 @@
 -- Document 01's sample file, byte by byte, is the file of the image that it describes; and what a file without a budget comes to.
 use mathlib.Core.List.{[], _∷_}
 use mathlib.Core.Path.{_≡_, refl, ap}
-use Rattle.numbers.specs.Rows.{rowOf}
+use Rattle.numbers.specs.Lists.{bytesOfList}
 use Rattle.image.specs.Format.{Image, sectionOf, budgetOf, spelled}
 use Rattle.image.specs.Loading.{loadedFrom}
 
@@ -11,7 +11,7 @@ sampleImage = record { memory = 0x34 ∷ 0x05 ∷ 0x34 ∷ 0x07 ∷ 0x0E ∷ 0x3
 pub sample-file : spelled sampleImage ≡
     0x00 ∷ 0x00 ∷ 0x00 ∷ 0x06 ∷ 0x34 ∷ 0x05 ∷ 0x34 ∷ 0x07 ∷ 0x0E ∷ 0x3D ∷
     0x00 ∷ 0x00 ∷ 0x00 ∷ 0x00 ∷ 0x00 ∷ 0x00 ∷ 0x00 ∷ 0x01 ∷ 0x00 ∷ 0x00 ∷ 0x03 ∷ 0xE8 ∷ []
-unfolding rowOf sectionOf spelled
+unfolding bytesOfList sectionOf spelled
 sample-file = refl
 
 pub default-budget : (i : Image) → i .budget ≡ [] → loadedFrom i .budget ≡ 10000

@@ -1,4 +1,4 @@
--- What is judged good is spelled: the image that stands in its parts is allowed and spells the whole file.
+-- What is judged good is spelled: the image that stands in its spans is spellable and spells the whole file.
 use mathlib.Core.Bool.{Bool, true, false}
 use mathlib.Core.List.{List, [], _++_, append-nil}
 use mathlib.Core.Path.{_≡_, refl, sym, ap, subst, _∙_}
@@ -9,61 +9,61 @@ use lib.ListN.{length, drop, drop-of-length-le}
 use borrow.Author.Tests.{ltb-false}
 use Rattle.plain.specs.Choice.{pick}
 use Rattle.numbers.specs.Laws.Bytes.{Bytes}
-use Rattle.numbers.specs.Laws.Rows.{length-row-at, row-below}
+use Rattle.numbers.specs.Laws.Lists.{length-list-at, list-below}
 use Rattle.machine.specs.Limits.{mostBudget}
-use Rattle.image.specs.Format.{Image, Allowed, Within, limits, sectionOf, budgetOf, spelled}
-use Rattle.image.specs.Judging.{Finding, fails, stands, partAt, valuesIn, endJudged, after, judgedOf}
+use Rattle.image.specs.Format.{Image, Spellable, Within, limits, sectionOf, budgetOf, spelled}
+use Rattle.image.specs.Judging.{Finding, fails, finds, spanAt, valuesIn, endJudged, andThen, judgedOf}
 use Rattle.image.specs.Laws.Section.{WholeAt, whole-at, section-spelled}
 use Rattle.image.specs.declared.Section.{Section}
 use Rattle.image.specs.declared.Section.the-variants.{Memory, Cells, Budget}
-use Rattle.image.specs.declared.Part.{Part}
-use Rattle.image.specs.declared.Parts.{Parts}
+use Rattle.image.specs.declared.Span.{Span}
+use Rattle.image.specs.declared.Spans.{Spans}
 
--- the image that stands in the parts of a file
-unfoldable pub imageIn : List ℕ → Parts → Image
-imageIn file parts =
-    record { memory = valuesIn file Memory (parts .memory); cells = valuesIn file Cells (parts .cells); budget = valuesIn file Budget (parts .budget) }
+-- the image that stands in the spans of a file
+unfoldable pub imageIn : List ℕ → Spans → Image
+imageIn file spans =
+    record { memory = valuesIn file Memory (spans .memory); cells = valuesIn file Cells (spans .cells); budget = valuesIn file Budget (spans .budget) }
 
 -- a good file: what its tests show
-pub record GoodFile (file : List ℕ) (parts : Parts) : Type 0 where
-  pub memory-whole : WholeAt file Memory 0 (parts .memory)
-  pub cells-whole : WholeAt file Cells (parts .memory .to) (parts .cells)
-  pub budget-whole : WholeAt file Budget (parts .cells .to) (parts .budget)
-  pub budget-low : budgetOf (valuesIn file Budget (parts .budget)) ≤ mostBudget
-  pub ends : length file ≤ parts .budget .to
+pub record GoodFile (file : List ℕ) (spans : Spans) : Type 0 where
+  pub memory-whole : WholeAt file Memory 0 (spans .memory)
+  pub cells-whole : WholeAt file Cells (spans .memory .to) (spans .cells)
+  pub budget-whole : WholeAt file Budget (spans .cells .to) (spans .budget)
+  pub budget-low : budgetOf (valuesIn file Budget (spans .budget)) ≤ mostBudget
+  pub ends : length file ≤ spans .budget .to
 
--- the part after which a good answer went on
-went-on : (m : Finding Part) (next : Part → Finding Parts) (parts : Parts) → after m next ≡ stands parts → (part : Part) × (m ≡ stands part) × (next part ≡ stands parts)
-went-on (fails number fault) next parts e = absurd (let z : _≡_ {A = ℕ} 0 1 = cc in omega arith)
-went-on (stands part) next parts e = (part, refl, e)
+-- the span after which a good answer went on
+went-on : (m : Finding Span) (next : Span → Finding Spans) (spans : Spans) → andThen m next ≡ finds spans → (span : Span) × (m ≡ finds span) × (next span ≡ finds spans)
+went-on (fails number fault) next spans e = absurd (let z : _≡_ {A = ℕ} 0 1 = cc in omega arith)
+went-on (finds span) next spans e = (span, refl, e)
 
 -- a test that a good answer has passed
-passed : (t : Bool) (x y : Finding Parts) (parts : Parts) → (x ≡ stands parts → ⊥) → pick t x y ≡ stands parts → (t ≡ false) × (y ≡ stands parts)
-passed true x y parts other e = absurd (other e)
-passed false x y parts other e = (refl, e)
+passed : (t : Bool) (x y : Finding Spans) (spans : Spans) → (x ≡ finds spans → ⊥) → pick t x y ≡ finds spans → (t ≡ false) × (y ≡ finds spans)
+passed true x y spans other e = absurd (other e)
+passed false x y spans other e = (refl, e)
 
 module _ (file : List ℕ) where
-  abbrev pub partsFrom : Part → Part → Part → Parts
-  partsFrom memory cells budget = record { memory = memory; cells = cells; budget = budget }
+  abbrev pub spansFrom : Span → Span → Span → Spans
+  spansFrom memory cells budget = record { memory = memory; cells = cells; budget = budget }
 
-  abbrev pub afterCells : Part → Part → Finding Parts
-  afterCells memory cells = after (partAt file Budget (cells .to)) λ budget. endJudged file (partsFrom memory cells budget)
+  abbrev pub afterCells : Span → Span → Finding Spans
+  afterCells memory cells = andThen (spanAt file Budget (cells .to)) λ budget. endJudged file (spansFrom memory cells budget)
 
-  abbrev pub afterMemory : Part → Finding Parts
-  afterMemory memory = after (partAt file Cells (memory .to)) (afterCells memory)
+  abbrev pub afterMemory : Span → Finding Spans
+  afterMemory memory = andThen (spanAt file Cells (memory .to)) (afterCells memory)
 
-  pub good-file : (parts : Parts) → judgedOf file ≡ stands parts → GoodFile file parts
+  pub good-file : (spans : Spans) → judgedOf file ≡ finds spans → GoodFile file spans
   unfolding judgedOf endJudged
-  good-file parts h =
-      let one = went-on (partAt file Memory 0) afterMemory parts h in
+  good-file spans h =
+      let one = went-on (spanAt file Memory 0) afterMemory spans h in
       let memory = one .0 in
-      let two = went-on (partAt file Cells (memory .to)) (afterCells memory) parts (one .2) in
+      let two = went-on (spanAt file Cells (memory .to)) (afterCells memory) spans (one .2) in
       let cells = two .0 in
-      let three = went-on (partAt file Budget (cells .to)) (λ (x : Part). endJudged file (partsFrom memory cells x)) parts (two .2) in
+      let three = went-on (spanAt file Budget (cells .to)) (λ (x : Span). endJudged file (spansFrom memory cells x)) spans (two .2) in
       let budget = three .0 in
-      let four = passed (ltb mostBudget (budgetOf (valuesIn file Budget budget))) _ _ parts (λ e. let z : _≡_ {A = ℕ} 0 1 = cc in omega arith) (three .2) in
-      let five = passed (ltb (budget .to) (length file)) _ _ parts (λ e. let z : _≡_ {A = ℕ} 0 1 = cc in omega arith) (four .1) in
-      let same : partsFrom memory cells budget ≡ parts = cc (five .1) in
+      let four = passed (ltb mostBudget (budgetOf (valuesIn file Budget budget))) _ _ spans (λ e. let z : _≡_ {A = ℕ} 0 1 = cc in omega arith) (three .2) in
+      let five = passed (ltb (budget .to) (length file)) _ _ spans (λ e. let z : _≡_ {A = ℕ} 0 1 = cc in omega arith) (four .1) in
+      let same : spansFrom memory cells budget ≡ spans = cc (five .1) in
       subst (GoodFile file) same
       (record {
         memory-whole = whole-at file Memory 0 memory (one .1);
@@ -73,33 +73,33 @@ module _ (file : List ℕ) where
         ends = ltb-false _ _ (five .0);
       })
 
-module _ (file : List ℕ) (bytes : Bytes file) (parts : Parts) (good : GoodFile file parts) where
-  within : (s : Section) (at : ℕ) (part : Part) → WholeAt file s at part → Within s (valuesIn file s part)
-  within s at part h =
-      let count : length (valuesIn file s part) ≡ part .count = length-row-at (limits s .width) (part .count) file (part .from) in
-      let enough : limits s .fewest ≤ part .count = h .enough in
-      let fit : part .count ≤ limits s .most = h .fit in
-      record { enough = omega arith; fit = omega arith; in-width = row-below (limits s .width) (part .count) file (part .from) bytes }
+module _ (file : List ℕ) (bytes : Bytes file) (spans : Spans) (good : GoodFile file spans) where
+  within : (s : Section) (at : ℕ) (span : Span) → WholeAt file s at span → Within s (valuesIn file s span)
+  within s at span h =
+      let count : length (valuesIn file s span) ≡ span .count = length-list-at (limits s .width) (span .count) file (span .from) in
+      let enough : limits s .fewest ≤ span .count = h .enough in
+      let fit : span .count ≤ limits s .most = h .fit in
+      record { enough = omega arith; fit = omega arith; in-width = list-below (limits s .width) (span .count) file (span .from) bytes }
 
-  pub image-allowed : Allowed (imageIn file parts)
+  pub image-spellable : Spellable (imageIn file spans)
   unfolding imageIn
-  image-allowed =
+  image-spellable =
       record {
-        memory-within = within Memory 0 (parts .memory) (good .memory-whole);
-        cells-within = within Cells (parts .memory .to) (parts .cells) (good .cells-whole);
-        budget-within = within Budget (parts .cells .to) (parts .budget) (good .budget-whole);
+        memory-within = within Memory 0 (spans .memory) (good .memory-whole);
+        cells-within = within Cells (spans .memory .to) (spans .cells) (good .cells-whole);
+        budget-within = within Budget (spans .cells .to) (spans .budget) (good .budget-whole);
         budget-low = good .budget-low;
       }
 
-  pub image-spells : spelled (imageIn file parts) ≡ file
+  pub image-spells : spelled (imageIn file spans) ≡ file
   unfolding imageIn spelled
   image-spells =
-      let first = sectionOf Memory (valuesIn file Memory (parts .memory)) in
-      let second = sectionOf Cells (valuesIn file Cells (parts .cells)) in
-      let third = sectionOf Budget (valuesIn file Budget (parts .budget)) in
-      let rest : drop (parts .budget .to) file ≡ [] = drop-of-length-le file {i = parts .budget .to} (good .ends) in
-      let three : third ≡ drop (parts .cells .to) file =
-      sym (append-nil third) ∙ ap (λ (l : List ℕ). third ++ l) (sym rest) ∙ section-spelled file Budget (parts .cells .to) bytes (parts .budget) (good .budget-whole) in
-      let two : second ++ third ≡ drop (parts .memory .to) file =
-      ap (λ (l : List ℕ). second ++ l) three ∙ section-spelled file Cells (parts .memory .to) bytes (parts .cells) (good .cells-whole) in
-      ap (λ (l : List ℕ). first ++ l) two ∙ section-spelled file Memory 0 bytes (parts .memory) (good .memory-whole)
+      let first = sectionOf Memory (valuesIn file Memory (spans .memory)) in
+      let second = sectionOf Cells (valuesIn file Cells (spans .cells)) in
+      let third = sectionOf Budget (valuesIn file Budget (spans .budget)) in
+      let rest : drop (spans .budget .to) file ≡ [] = drop-of-length-le file {i = spans .budget .to} (good .ends) in
+      let three : third ≡ drop (spans .cells .to) file =
+      sym (append-nil third) ∙ ap (λ (l : List ℕ). third ++ l) (sym rest) ∙ section-spelled file Budget (spans .cells .to) bytes (spans .budget) (good .budget-whole) in
+      let two : second ++ third ≡ drop (spans .memory .to) file =
+      ap (λ (l : List ℕ). second ++ l) three ∙ section-spelled file Cells (spans .memory .to) bytes (spans .cells) (good .cells-whole) in
+      ap (λ (l : List ℕ). first ++ l) two ∙ section-spelled file Memory 0 bytes (spans .memory) (good .memory-whole)

@@ -23,7 +23,7 @@ use Rattle.machine.specs.Codes.{Shuffle, NOP, DROP, DUP, SWAP, OVER, NIP
 use Rattle.machine.specs.State.{Whole}
 use Rattle.machine.specs.Memory.{size, placeOf}
 use Rattle.machine.specs.Fetch.{Instruction, operandAt, instructionAt}
-use Rattle.machine.specs.Rows.{Row, top, second, topReturn, localsInView, cellsInView, cells, throwRow, rowOf, linkRow, shuffled, target, twoRow, fetchRow, storeRow}
+use Rattle.machine.specs.Rows.{Row, top, second, topReturn, localsInView, cellsInView, cellsRow, throwRow, rowOf, linkRow, shuffled, target, twoRow, fetchRow, storeRow}
 use Rattle.machine.specs.Step.{Stepped, refused, done, stepOf, rowAt}
 use Rattle.machine.specs.Run.{After, ended, runFrom, acceptable, runOf}
 use Rattle.machine.specs.Fits.{Fits, AllBytes, Exist, ExistAfter}
@@ -86,7 +86,7 @@ module _ (i : Instruction) (mem : List ℕ) (m : Machine) (operand-fits : CellFi
   target-fits BEQ = picked (eqb (top m) 0) (i .operand) (i .next) operand-fits next-fits
   target-fits BRA = operand-fits
 
-  stays-fit : (puts : List ℕ) → All CellFits puts → RowFits (cells i mem m puts)
+  stays-fit : (puts : List ℕ) → All CellFits puts → RowFits (cellsRow i mem m puts)
   stays-fit puts p = record { puts-fit = p; goes-fits = next-fits; link-fits = tt; memory-fits = bytes }
 
   return-fits : CellFits (topReturn m)
@@ -99,7 +99,7 @@ module _ (i : Instruction) (mem : List ℕ) (m : Machine) (operand-fits : CellFi
   throw-address : CellFits (levelAt (m .links) (m .links .e) .address)
   throw-address = level-in-view (m .links) (whole .shaped) (formed .sound) (h .links-fit) .address-fits
 
-  throw-fits : (b : Bool) → RowFits (pick b (cells i mem m []) (throwRow i mem m))
+  throw-fits : (b : Bool) → RowFits (pick b (cellsRow i mem m []) (throwRow i mem m))
   throw-fits true = stays-fit [] tt
   throw-fits false =
       record { puts-fit = (cell-at _, tt); goes-fits = throw-address; link-fits = tt; memory-fits = bytes }

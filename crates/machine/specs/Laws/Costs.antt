@@ -13,7 +13,7 @@ use Rattle.machine.specs.Codes.{Entry, unknown, entryBEQ, entryBRA, tabl
 use Rattle.machine.specs.Fetch.{Instruction, instructionAt}
 use Rattle.machine.specs.Rows.{top}
 use Rattle.machine.specs.Step.{Stepped, refused, done, stepOf, costOf, cyclesOfThrowOfZero}
-use Rattle.machine.specs.Run.{After, ended, runFrom, Counted}
+use Rattle.machine.specs.Run.{After, ended, runFrom, CyclesBounded}
 use Rattle.machine.specs.Laws.Passed.{step-done}
 use Rattle.machine.specs.Laws.Tables.{Everywhere, at-code, getD-within}
 use Rattle.machine.specs.declared.Machine.{Machine}
@@ -75,8 +75,8 @@ cost-bounded i m = go (both (eqb (i .code) 0x0D) (eqb (top m) 0))
     go false = cycles-bounded (i .code)
 
 counted-step : (s : Stepped) (left n c : ℕ) (mem : List ℕ) (m : Machine) → stepOf mem m ≡ s → n ≤ c → c ≤ 42 * n →
-    ((mem′ : List ℕ) (m′ : Machine) (n′ c′ : ℕ) → n′ ≤ c′ → c′ ≤ 42 * n′ → Counted (runFrom left mem′ m′ n′ c′)) →
-    Counted
+    ((mem′ : List ℕ) (m′ : Machine) (n′ c′ : ℕ) → n′ ≤ c′ → c′ ≤ 42 * n′ → CyclesBounded (runFrom left mem′ m′ n′ c′)) →
+    CyclesBounded
     (elim s as (λ x. After) [
       | refused number ↦ ended number mem m n c
       | done mem′ m′ cost ↦ runFrom left mem′ m′ (suc n) (c + cost)
@@ -89,7 +89,7 @@ counted-step (done mem′ m′ cost) left n c mem m e lo hi next =
     let upper : c + cost ≤ 42 * suc n = omega (arith, k) in
     next mem′ m′ (suc n) (c + cost) lower upper
 
-pub counted : (left : ℕ) (mem : List ℕ) (m : Machine) (n c : ℕ) → n ≤ c → c ≤ 42 * n → Counted (runFrom left mem m n c)
+pub run-bounded : (left : ℕ) (mem : List ℕ) (m : Machine) (n c : ℕ) → n ≤ c → c ≤ 42 * n → CyclesBounded (runFrom left mem m n c)
 unfolding runFrom
-counted zero mem m n c lo hi = record { least = lo; most = hi }
-counted (suc left) mem m n c lo hi = counted-step (stepOf mem m) left n c mem m refl lo hi (counted left)
+run-bounded zero mem m n c lo hi = record { least = lo; most = hi }
+run-bounded (suc left) mem m n c lo hi = counted-step (stepOf mem m) left n c mem m refl lo hi (run-bounded left)

@@ -16,7 +16,7 @@ use Rattle.word.specs.declared.TwoCells.the-variants.{Plus, Minus, AddExtended,
 use Rattle.machine.specs.Codes.{Shuffle, NOP, DROP, DUP, SWAP, OVER, NIP, ROT, PSP-AT, ZERO, DUP-NONZERO, Link, >R, R-AT, R>, CATCH, RESETSP, THROW, JSL, JSR, EXIT, Op, SHUFFLE, JUMP, LINK, ONE, TWO, FETCH, STORE, LITERAL, table, entryAt}
 use Rattle.machine.specs.Memory.{placeOf}
 use Rattle.machine.specs.Fetch.{Instruction}
-use Rattle.machine.specs.Rows.{Row, aPlace, aDivisor, top, second, cells, throwRow, rowOf, linkRow, shuffled, twoRow, fetchRow, storeRow}
+use Rattle.machine.specs.Rows.{Row, aPlace, aDivisor, top, second, cellsRow, throwRow, rowOf, linkRow, shuffled, twoRow, fetchRow, storeRow}
 use Rattle.machine.specs.Checks.{lacks}
 use Rattle.machine.specs.Laws.Tables.{Everywhere, at-code}
 use Rattle.machine.specs.Laws.Marks.{codeOfTwo}
@@ -84,7 +84,7 @@ module _ (i : Instruction) (mem : List ℕ) (m : Machine) where
   exactly : (op : Op) (row : Row) → row .keeps ≡ m .p - entryAt (i .code) .takes → length (row .puts) ≡ putsOf op → Puts op row
   exactly op row keeps puts = record { most = omega (arith, puts); just = λ plain place divisor. (keeps, puts) }
 
-  shuffle-puts : (o : Shuffle) → Puts (SHUFFLE o) (cells i mem m (shuffled i mem m o))
+  shuffle-puts : (o : Shuffle) → Puts (SHUFFLE o) (cellsRow i mem m (shuffled i mem m o))
   shuffle-puts NOP = exactly _ _ refl refl
   shuffle-puts DROP = exactly _ _ refl refl
   shuffle-puts DUP = exactly _ _ refl refl
@@ -108,7 +108,7 @@ module _ (i : Instruction) (mem : List ℕ) (m : Machine) where
   link-puts RESETSP = record { most = omega arith; just = λ plain place divisor. absurd (plain .2 refl) }
   link-puts THROW = record { most = go (eqb (top m) 0); just = λ plain place divisor. absurd (plain .1 refl) }
     where
-      go : (b : Bool) → length (pick b (cells i mem m []) (throwRow i mem m) .puts) ≤ 1
+      go : (b : Bool) → length (pick b (cellsRow i mem m []) (throwRow i mem m) .puts) ≤ 1
       go true = omega arith
       go false = omega arith
   link-puts JSL = exactly _ _ refl refl

@@ -10,9 +10,9 @@ use Rattle.numbers.specs.Bytes.{byteAt}
 use Rattle.links.specs.Linked.{frameAt, copyOfP}
 use Rattle.machine.specs.Codes.{THROW, LINK, entryAt, table}
 use Rattle.machine.specs.Fetch.{Instruction, instructionAt}
-use Rattle.machine.specs.Rows.{Row, rowOf, top, cells, throwRow}
+use Rattle.machine.specs.Rows.{Row, rowOf, top, cellsRow, throwRow}
 use Rattle.machine.specs.Step.{done, stepOf, put, rowAt}
-use Rattle.machine.specs.Thrown.{Thrown}
+use Rattle.machine.specs.AfterThrow.{AfterThrow}
 use Rattle.machine.specs.Laws.Passed.{step-done}
 use Rattle.machine.specs.declared.Machine.{Machine}
 
@@ -36,10 +36,10 @@ exit-goes mem m mem′ m′ k e is =
 
 throw-row : (i : Instruction) (mem : List ℕ) (m : Machine) → (top m ≡ 0 → ⊥) → rowOf i mem m (LINK THROW) ≡ throwRow i mem m
 unfolding rowOf
-throw-row i mem m other = ap (λ (b : Bool). pick b (cells i mem m []) (throwRow i mem m)) (ne-eqb (top m) 0 other)
+throw-row i mem m other = ap (λ (b : Bool). pick b (cellsRow i mem m []) (throwRow i mem m)) (ne-eqb (top m) 0 other)
 
 pub throw-leaves : (mem : List ℕ) (m : Machine) (mem′ : List ℕ) (m′ : Machine) (k : ℕ) → stepOf mem m ≡ done mem′ m′ k →
-    byteAt mem (m .counter) ≡ 0x0D → (top m ≡ 0 → ⊥) → Thrown m m′
+    byteAt mem (m .counter) ≡ 0x0D → (top m ≡ 0 → ⊥) → AfterThrow m m′
 unfolding entryAt table
 throw-leaves mem m mem′ m′ k e is other =
     let i = instructionAt mem (m .counter) in

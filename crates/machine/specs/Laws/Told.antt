@@ -19,7 +19,7 @@ use Rattle.word.specs.declared.Outcome.the-variants.{Single, Double, DivisorZer
 use Rattle.machine.specs.Codes.{Link, >R, R-AT, R>, CATCH, RESETSP, THROW, JSL, JSR, EXIT, Op, SHUFFLE, JUMP, LINK, ONE, TWO, FETCH, STORE, LITERAL, entryAt}
 use Rattle.machine.specs.Memory.{size, placeOf}
 use Rattle.machine.specs.Fetch.{Instruction}
-use Rattle.machine.specs.Rows.{Row, nothing, aReturnCell, top, second, rowOf, linkRow, cells, twoRow, fetchRow, storeRow, throwRow}
+use Rattle.machine.specs.Rows.{Row, nothing, aReturnCell, top, second, rowOf, linkRow, cellsRow, twoRow, fetchRow, storeRow, throwRow}
 use Rattle.machine.specs.declared.Machine.{Machine}
 use Rattle.machine.specs.declared.Width.{Width}
 use Rattle.machine.specs.declared.Place.{Place}
@@ -71,7 +71,7 @@ module _ (i : Instruction) (mem : List ℕ) (m : Machine) where
   kept-fair op row flag long t =
       record { flag-within = λ h. omega arith; flag-kept = λ other. flag; same-length = long; tells = t }
 
-  throw-fair : (b : Bool) → eqb (top m) 0 ≡ b → Fair i m mem (LINK THROW) (pick b (cells i mem m []) (throwRow i mem m))
+  throw-fair : (b : Bool) → eqb (top m) 0 ≡ b → Fair i m mem (LINK THROW) (pick b (cellsRow i mem m []) (throwRow i mem m))
   throw-fair true e = kept-fair _ _ refl refl tt
   throw-fair false e = kept-fair _ _ refl refl (refl, record { non-zero = e; to-copy = refl; code-put = refl })
 

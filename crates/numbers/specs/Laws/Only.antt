@@ -2,7 +2,7 @@
 use mathlib.Core.List.{List}
 use mathlib.Core.Path.{_≡_, refl, sym, ap, _∙_}
 use Prim.Native.Nat.{ℕ}
-use Rattle.numbers.specs.Slices.{saysFound, saysFoundEight, saysWritten, readAt, Wrote, writeAt, saysPut, Spelled, putAt}
+use Rattle.numbers.specs.Slices.{saysFound, saysFoundEight, saysWritten, readAt, Wrote, writeAt, saysPut, WroteText, putAt}
 use Rattle.numbers.specs.declared.Found.{Found}
 use Rattle.numbers.specs.declared.Found.the-variants.{Number, Outside}
 use Rattle.numbers.specs.declared.FoundEight.{FoundEight}
@@ -59,8 +59,8 @@ pub only-put : (characters text : List ℕ) (at : ℕ) (a b : Put) (x y : List �
     → record { said = saysPut b; text = y } ≡ putAt characters text at
     → (a ≡ b) × (x ≡ y)
 only-put characters text at a b x y h k =
-    let same : _≡_ {A = Spelled} (record { said = saysPut a; text = x }) (record { said = saysPut b; text = y }) = h ∙ sym k in
-    (same-put a b (ap (λ (s : Spelled). s .said) same), ap (λ (s : Spelled). s .text) same)
+    let same : _≡_ {A = WroteText} (record { said = saysPut a; text = x }) (record { said = saysPut b; text = y }) = h ∙ sym k in
+    (same-put a b (ap (λ (s : WroteText). s .said) same), ap (λ (s : WroteText). s .text) same)
 
 -- one_byte, two_bytes, three_bytes, four_bytes, eight_bytes, low_byte: a number that is given by an equation
 pub only-joined : (joined a b : ℕ) → a ≡ joined → b ≡ joined → a ≡ b

@@ -6,26 +6,26 @@ use native.Mathlib.Omega.{arith}
 use Rattle.plain.specs.Answer.{Answer, refuses, gives}
 use Rattle.image.specs.Loading.{Reading, Read, refusedWith}
 use Rattle.image.specs.Laws.Only.{only-reading}
-use Rattle.reader.specs.Reads.{Left, Reads, wrong-length, refused, read, handedOut}
+use Rattle.reader.specs.Reads.{HandedOut, Reads, wrong-length, refused, read, handedOut}
 
 -- what the reader says of an image is one thing
-one-saying : (image memory : List ℕ) (x y : Reading) → Read image memory (x .memory) (x .handed) → Read image memory (y .memory) (y .handed)
-    → x .handed .says ≡ y .handed .says
+one-saying : (image memory : List ℕ) (x y : Reading) → Read image memory (x .memory) (x .returned) → Read image memory (y .memory) (y .returned)
+    → x .returned .says ≡ y .returned .says
 one-saying image memory x y h k =
-    ap (λ (r : Reading). r .handed .says) (only-reading image memory (x .memory) (y .memory) (x .handed) (y .handed) h k)
+    ap (λ (r : Reading). r .returned .says) (only-reading image memory (x .memory) (y .memory) (x .returned) (y .returned) h k)
 
 module _ (image memory state result : List ℕ) where
   abbrev refusal : ℕ → Reading
-  refusal number = record { memory = memory; handed = refusedWith number }
+  refusal number = record { memory = memory; returned = refusedWith number }
 
-  not-both : (number : ℕ) (r : Reading) → Read image memory memory (refusedWith number) → Read image memory (r .memory) (r .handed) → r .handed .says ≡ gives tt → ⊥
+  not-both : (number : ℕ) (r : Reading) → Read image memory memory (refusedWith number) → Read image memory (r .memory) (r .returned) → r .returned .says ≡ gives tt → ⊥
   unfolding refusedWith
   not-both number r h k good =
       let same : refuses number ≡ gives tt = one-saying image memory (refusal number) r h k ∙ good in
       let z : _≡_ {A = ℕ} 0 1 = cc in
       omega arith
 
-  pub only-reads : (a b : Left) → Reads image memory state result a → Reads image memory state result b → a ≡ b
+  pub only-reads : (a b : HandedOut) → Reads image memory state result a → Reads image memory state result b → a ≡ b
   unfolding refusedWith
   only-reads a b (wrong-length h) (wrong-length k) = refl
   only-reads a b (wrong-length h) (refused n all long is) = absurd (h (all, long))
@@ -39,4 +39,4 @@ module _ (image memory state result : List ℕ) where
   only-reads a b (read r all long is good fits small) (wrong-length k) = absurd (k (all, long))
   only-reads a b (read r all long is good fits small) (refused n also too same) = absurd (not-both n r same is good)
   only-reads a b (read r all long is good fits small) (read s also too same fine fit tiny) =
-      ap handedOut (only-reading image memory (r .memory) (s .memory) (r .handed) (s .handed) is same)
+      ap handedOut (only-reading image memory (r .memory) (s .memory) (r .returned) (s .returned) is same)

@@ -13,12 +13,12 @@ use Rattle.state.proofs.give.Tie as tie
 returns : tie.Need-returns
 returns c = wrong-size (c .if1 .taken)
 
-slice-aggregate-put-row : tie.Need-slice-aggregate-put-row
-slice-aggregate-put-row c = search needs
+slice-aggregate-put-array : tie.Need-slice-aggregate-put-array
+slice-aggregate-put-array c = search needs
 
-put-row-requires : tie.Need-put-row-requires
-put-row-requires c κs =
-    let long : cellsDepth ≡ length (c .before .before .before .before .before .before .args .machine .cells) = slice-aggregate-put-row c in
+put-array-requires : tie.Need-put-array-requires
+put-array-requires c κs =
+    let long : cellsDepth ≡ length (c .before .before .before .before .before .before .args .machine .cells) = slice-aggregate-put-array c in
     omega arith
 
 put-pointer-requires : tie.Need-put-pointer-requires
@@ -47,7 +47,7 @@ returns-2 c =
     let a = measured .before .before .args in
     put-whole state (a .machine) (a .state .now) _ (measured .if1 .left)
     (fields-put stateFields (a .machine) (a .state .now) 0 _
-    (put-counted cellsDepth (a .machine .cells) (slice-aggregate-put-row (cells .before)) (cells .put-row .ensures)
+    (put-counted cellsDepth (a .machine .cells) (slice-aggregate-put-array (cells .before)) (cells .put-array .ensures)
     first p .put-pointer .ensures
     then links .put-links .ensures
     then counter .put-cell .ensures
@@ -59,8 +59,8 @@ give-spec =
     tie.close
     (tie.spec
     returns
-    slice-aggregate-put-row
-    put-row-requires
+    slice-aggregate-put-array
+    put-array-requires
     put-pointer-requires
     put-links-requires
     put-cell-requires

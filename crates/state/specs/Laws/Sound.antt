@@ -8,7 +8,7 @@ use lib.ListN.{length, take, drop, length-append}
 use lib.Seq.{take-at, drop-at}
 use Rattle.numbers.specs.Laws.Bytes.{length-bytes, only-number}
 use Rattle.plain.specs.All.{All}
-use Rattle.state.specs.Parts.{Part, each, number, row, Field, widthOf, FieldsFit, fieldBytes, fields}
+use Rattle.state.specs.Parts.{Part, each, number, array, Field, fieldsWidth, FieldsFit, fieldBytes, fields}
 
 pub record Sound {A : Type 0} (part : Part A) : Type 0 where
   pub long : (x : A) → part .Fits x → length (part .bytes x) ≡ part .width
@@ -46,8 +46,8 @@ module _ {A : Type 0} (part : Part A) (sound : Sound part) where
       let tail : xs ≡ ys = only-each xs ys (h .1) (k .1) (suc-inj l) (cut .1) in
       λ i. head i ∷ tail i
 
-  pub row-sound : (n : ℕ) → Sound (row n part)
-  row-sound n =
+  pub array-sound : (n : ℕ) → Sound (array n part)
+  array-sound n =
       record {
         long = λ xs h. length-each xs (h .1) ∙ ap (λ (k : ℕ). k * part .width) (h .0);
         only = λ xs ys h k e. only-each xs ys (h .1) (k .1) (h .0 ∙ sym (k .0)) e;
@@ -67,12 +67,12 @@ abbrev pub Agree : {A : Type 0} → List (Field A) → A → A → Type 0
 Agree [] a b = Unit {0}
 Agree (f ∷ fs) a b = (f .get a ≡ f .get b) × Agree fs a b
 
-length-fields : {A : Type 0} (fs : List (Field A)) → AllSound fs → (a : A) → FieldsFit fs a → length (fieldBytes fs a) ≡ widthOf fs
+length-fields : {A : Type 0} (fs : List (Field A)) → AllSound fs → (a : A) → FieldsFit fs a → length (fieldBytes fs a) ≡ fieldsWidth fs
 unfolding fieldBytes
 length-fields [] sound a h = refl
 length-fields (f ∷ fs) sound a h =
     let one : length (f .part .bytes (f .get a)) ≡ f .part .width = sound .0 .long (f .get a) (h .0) in
-    let rest : length (fieldBytes fs a) ≡ widthOf fs = length-fields fs (sound .1) a (h .1) in
+    let rest : length (fieldBytes fs a) ≡ fieldsWidth fs = length-fields fs (sound .1) a (h .1) in
     length-append (f .part .bytes (f .get a)) (fieldBytes fs a) ∙ omega arith
 
 only-fields : {A : Type 0} (fs : List (Field A)) → AllSound fs → (a b : A) → FieldsFit fs a → FieldsFit fs b

@@ -1,7 +1,7 @@
 -- Each part of a state is sound, and the whole is: no two machines that fit have the same bytes.
 use Rattle.links.specs.Depths.{cellsDepth, returnsDepth, framesCount, levelsCount, localsCount, levelCells}
 use Rattle.state.specs.Layout.{cell, pointer, frameFields, frame, levelFields, level, linksFields, links, stateFields, state}
-use Rattle.state.specs.Laws.Sound.{_and_, Sound, number-sound, row-sound, fields-sound}
+use Rattle.state.specs.Laws.Sound.{_and_, Sound, number-sound, array-sound, fields-sound}
 
 pub cell-sound : Sound cell
 cell-sound = number-sound 4
@@ -11,18 +11,18 @@ pointer-sound = number-sound 8
 
 pub frame-sound : Sound frame
 frame-sound =
-    fields-sound frameFields (row-sound cell cell-sound localsCount and pointer-sound and cell-sound and tt)
+    fields-sound frameFields (array-sound cell cell-sound localsCount and pointer-sound and cell-sound and tt)
     (λ f g e i. record { locals = e .0 i; r = e .1 .0 i; address = e .1 .1 .0 i })
 
 pub level-sound : Sound level
 level-sound =
-    fields-sound levelFields (row-sound cell cell-sound levelCells and pointer-sound and pointer-sound and cell-sound and tt)
+    fields-sound levelFields (array-sound cell cell-sound levelCells and pointer-sound and pointer-sound and cell-sound and tt)
     (λ l m e i. record { cells = e .0 i; s = e .1 .0 i; p = e .1 .1 .0 i; address = e .1 .1 .1 .0 i })
 
 pub links-sound : Sound links
 links-sound =
     fields-sound linksFields
-    (row-sound cell cell-sound returnsDepth and pointer-sound and row-sound frame frame-sound framesCount and pointer-sound and row-sound level level-sound levelsCount and pointer-sound and tt)
+    (array-sound cell cell-sound returnsDepth and pointer-sound and array-sound frame frame-sound framesCount and pointer-sound and array-sound level level-sound levelsCount and pointer-sound and tt)
     (λ l m e i.
     record {
       returns = e .0 i;
@@ -35,5 +35,5 @@ links-sound =
 
 pub state-sound : Sound state
 state-sound =
-    fields-sound stateFields (row-sound cell cell-sound cellsDepth and pointer-sound and links-sound and cell-sound and cell-sound and tt)
+    fields-sound stateFields (array-sound cell cell-sound cellsDepth and pointer-sound and links-sound and cell-sound and cell-sound and tt)
     (λ m n e i. record { cells = e .0 i; p = e .1 .0 i; links = e .1 .1 .0 i; counter = e .1 .1 .1 .0 i; flag = e .1 .1 .1 .1 .0 i })

@@ -56,8 +56,8 @@ signed-fits x y flag hx =
     unless-fits (eqb y 0) _
     (sign-below (isNegative x) (lt-of-le-of-lt (mod-le m n) (magnitude-below x hx)), sign-below (apart (isNegative x) (isNegative y)) (lt-of-le-of-lt (div-le-self m n) (magnitude-below x hx)))
 
-words-fit : (product flag : ℕ) → CellsFit (cellsOf (product % 2 ^ 64) flag)
-words-fit product flag = (omega arith, omega arith)
+product-fits : (product flag : ℕ) → CellsFit (cellsOf (product % 2 ^ 64) flag)
+product-fits product flag = (omega arith, omega arith)
 
 pub two-fit : (op : TwoCells) (x y flag : ℕ) → x < 2 ^ 32 → y < 2 ^ 32 → CellsFit (twoCellsOf op x y flag)
 unfolding twoCellsOf
@@ -74,7 +74,7 @@ two-fit Above x y flag hx hy = truth-below (ltb y x)
 two-fit AndBits x y flag hx hy = and-lt 32 x y hx hy
 two-fit OrBits x y flag hx hy = or-lt 32 x y hx hy
 two-fit XorBits x y flag hx hy = xor-lt 32 x y hx hy
-two-fit MultiplySigned x y flag hx hy = words-fit (wide x * wide y) flag
+two-fit MultiplySigned x y flag hx hy = product-fits (wide x * wide y) flag
 two-fit MultiplyUnsigned x y flag hx hy = (omega arith, omega (arith, product-below hx hy))
 two-fit DivideSigned x y flag hx hy = signed-fits x y flag hx
 two-fit DivideUnsigned x y flag hx hy = unless-fits (eqb y 0) _ (lt-of-le-of-lt (mod-le x y) hx, lt-of-le-of-lt (div-le-self x y) hx)

@@ -1,10 +1,10 @@
--- Before turn i the array is the first i cells and zeros above them.
+-- Before pass i the array is the first i cells and zeros above them.
 use mathlib.Core.Path.{_≡_, refl, ap, _∙_}
 use Prim.Native.Nat.{ℕ, _≤_, _-_}
 use native.Mathlib.Omega.{arith}
 use borrow.Author.Needs.{needs}
 use Rattle.links.specs.Depths.{cellsDepth}
-use Rattle.numbers.specs.Rows.{rowAt}
+use Rattle.numbers.specs.Lists.{listAt}
 use Rattle.plain.specs.Zeros.{padded}
 use Rattle.image.specs.Format.{cellWidth}
 use Rattle.image.proofs.Placing.{value-placed}
@@ -12,13 +12,13 @@ use Rattle.image.proofs.place.cells.Statement.{statement}
 use Rattle.image.proofs.place.cells.Tie as tie
 
 abbrev Inv-loop : tie.InvT-loop
-Inv-loop file from count cells₀ i₀ cells i = (i ≤ count) × (cells ≡ padded cellsDepth (rowAt cellWidth i file from))
+Inv-loop file from count cells₀ i₀ cells i = (i ≤ count) × (cells ≡ padded cellsDepth (listAt cellWidth i file from))
 
 abbrev μ-loop : tie.MeasureT-loop
 μ-loop file from count cells₀ i₀ cells i = count - i
 
 loop-holds : tie.Need-loop-holds Inv-loop μ-loop
-unfolding padded rowAt
+unfolding padded listAt
 loop-holds c = (search needs, refl)
 
 mul-cell-at : tie.Need-mul-cell-at Inv-loop μ-loop
@@ -47,12 +47,12 @@ loop-again c =
     let start = c .before .before .before .before in
     let here = c .before .before .loop in (
       omega arith,
-      value-placed cellWidth cellsDepth (start .args .file .now) (here .cells) (start .args .part .from) (here .i) (c .cell-at .result) (omega arith) (c .cell-at .ensures)
+      value-placed cellWidth cellsDepth (start .args .file .now) (here .cells) (start .args .span .from) (here .i) (c .cell-at .result) (omega arith) (c .cell-at .ensures)
           (here .inv .1),
     )
 
 returns : tie.Need-returns Inv-loop μ-loop
-returns c = c .before .loop .inv .1 ∙ ap (λ (n : ℕ). padded cellsDepth (rowAt cellWidth n (c .before .before .before .args .file .now) (c .before .before .before .args .part .from))) (omega arith)
+returns c = c .before .loop .inv .1 ∙ ap (λ (n : ℕ). padded cellsDepth (listAt cellWidth n (c .before .before .before .args .file .now) (c .before .before .before .args .span .from))) (omega arith)
 
 pub cells-spec : {M : Type 1} → statement M
 cells-spec =

@@ -8,13 +8,13 @@ use Rattle.image.proofs.place.image.Tie as tie
 memory-bytes-requires : tie.Need-memory-bytes-requires
 memory-bytes-requires c κs =
     let start = c .before .before .before .before in
-    let lies = memory-lies (start .args .file .now) (start .args .parts) (start .pre .0) in
+    let lies = memory-lies (start .args .file .now) (start .args .spans) (start .pre .0) in
     (lies .0, omega arith)
 
 cells-requires : tie.Need-cells-requires
 cells-requires c κs =
     let start = c .before .before .before .before .before .before .before .before in
-    cells-lie (start .args .file .now) (start .args .parts) (start .pre .0)
+    cells-lie (start .args .file .now) (start .args .spans) (start .pre .0)
 
 fresh-requires : tie.Need-fresh-requires
 fresh-requires c κs = search needs
@@ -22,7 +22,7 @@ fresh-requires c κs = search needs
 budget-in-requires : tie.Need-budget-in-requires
 budget-in-requires c κs =
     let start = c .before .before .before .before .before .before .before .before .before .before .before in
-    budget-lies (start .args .file .now) (start .args .parts) (start .pre .0)
+    budget-lies (start .args .file .now) (start .args .spans) (start .pre .0)
 
 same-length : tie.Need-same-length
 same-length c = search needs
@@ -31,9 +31,9 @@ returns : tie.Need-returns
 returns c =
     let start = c .before .before .before .before .before .before .before .before .before .before .before .before in
     let file = start .args .file .now in
-    let parts = start .args .parts in (
-      memory-placed file parts (start .args .memory .now) _ (start .pre .1) (c .before .before .before .before .before .before .before .memory-bytes .ensures),
-      machine-placed file parts (c .before .before .fresh .result) _ _ (c .before .before .fresh .ensures) (c .before .before .before .cells .ensures) (c .budget-in .ensures),
+    let spans = start .args .spans in (
+      memory-placed file spans (start .args .memory .now) _ (start .pre .1) (c .before .before .before .before .before .before .before .memory-bytes .ensures),
+      machine-placed file spans (c .before .before .fresh .result) _ _ (c .before .before .fresh .ensures) (c .before .before .before .cells .ensures) (c .budget-in .ensures),
     )
 
 pub image-spec : {M : Type 1} → statement M

@@ -28,7 +28,7 @@ abbrev μ-loop2 : tie.MeasureT-loop2
 μ-loop2 file memory₀ from count i₀ memory i = length memory₀ - i
 
 loop-holds : tie.Need-loop-holds Inv-loop μ-loop Inv-loop2 μ-loop2
-loop-holds c = (search needs, paste-zero (c .args .memory .now) 0 (drop (c .args .part .from) (c .args .file .now)), refl)
+loop-holds c = (search needs, paste-zero (c .args .memory .now) 0 (drop (c .args .span .from) (c .args .file .now)), refl)
 
 add-memory : tie.Need-add-memory Inv-loop μ-loop Inv-loop2 μ-loop2
 add-memory c = search needs
@@ -50,7 +50,7 @@ loop-again c =
     let start = c .before .before .before in
     let here = c .before .before .loop in
     let file = start .args .file .now in
-    let from = start .args .part .from in
+    let from = start .args .span .from in
     let before = start .args .memory .now in
     let byte = getD file (from + here .i) 0 in
     let long : length (drop from file) ≡ length file - from = length-drop from file in
@@ -104,8 +104,8 @@ returns c =
     let one = c .before .before .before .loop in
     let two = c .before .loop2 in
     let file = start .args .file .now in
-    let from = start .args .part .from in
-    let count = start .args .part .count in
+    let from = start .args .span .from in
+    let count = start .args .span .count in
     let long : length (drop from file) ≡ length file - from = length-drop from file in
     let copied = one .inv .1 ∙ ap (λ (k : ℕ). take (one .i) (drop from file) ++ drop k (start .args .memory .now)) (zero-add (one .i)) in
     filled (drop from file) (start .args .memory .now) (one .memory) (two .memory) count (one .i) (two .i)

@@ -1,7 +1,7 @@
 -- No cell is the default, one cell is the budget.
 use mathlib.Core.Path.{sym, ap, _∙_}
 use Prim.Native.Nat.{ℕ}
-use Rattle.numbers.specs.Rows.{rowAt}
+use Rattle.numbers.specs.Lists.{listAt}
 use Rattle.image.specs.Format.{budgetOf, cellWidth}
 use Rattle.image.proofs.Placing.{first-budget}
 use borrow.Author.Needs.{needs}
@@ -9,8 +9,8 @@ use Rattle.image.proofs.sections.budget_in.Statement.{statement}
 use Rattle.image.proofs.sections.budget_in.Tie as tie
 
 returns : tie.Need-returns
-unfolding rowAt
-returns c = sym (ap (λ (n : ℕ). budgetOf (rowAt cellWidth n (c .before .before .before .args .file .now) (c .before .before .before .args .part .from))) (c .if1 .taken))
+unfolding listAt
+returns c = sym (ap (λ (n : ℕ). budgetOf (listAt cellWidth n (c .before .before .before .args .file .now) (c .before .before .before .args .span .from))) (c .if1 .taken))
 
 cell-at-requires : tie.Need-cell-at-requires
 cell-at-requires c κs = search needs

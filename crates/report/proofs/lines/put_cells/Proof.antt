@@ -1,4 +1,4 @@
--- Before turn i the text has grown by the lines of the first i cells.
+-- Before pass i the text has grown by the lines of the first i cells.
 use Prim.Native.Nat.{_-_}
 use native.Mathlib.Omega.{arith}
 use borrow.Author.Needs.{needs}

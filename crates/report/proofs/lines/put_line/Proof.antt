@@ -1,19 +1,19 @@
--- Before turn i the text is the first i numbers, each with its space.
+-- Before pass i the text is the first i numbers, each with its space.
 use mathlib.Core.Path.{_≡_}
 use Prim.Native.Nat.{_-_}
 use native.Mathlib.Omega.{arith}
 use lib.ListN.{length}
 use borrow.Author.Needs.{needs}
-use Rattle.report.specs.Sizes.{fields, longestField}
+use Rattle.report.specs.Sizes.{fieldsCount, longestField}
 use Rattle.report.proofs.Growing.{Grown, grown-none, grown-more, spaced, line-short, line-ends}
 use Rattle.report.proofs.lines.put_line.Statement.{statement}
 use Rattle.report.proofs.lines.put_line.Tie as tie
 
 abbrev Inv-loop : tie.InvT-loop
-Inv-loop text₀ numbers at₀ i₀ text at i = (length numbers ≡ fields) × Grown spaced longestField numbers (fields - 1) text₀ 0 text at i
+Inv-loop text₀ numbers at₀ i₀ text at i = (length numbers ≡ fieldsCount) × Grown spaced longestField numbers (fieldsCount - 1) text₀ 0 text at i
 
 abbrev μ-loop : tie.MeasureT-loop
-μ-loop text₀ numbers at₀ i₀ text at i = fields - i
+μ-loop text₀ numbers at₀ i₀ text at i = fieldsCount - i
 
 loop-holds : tie.Need-loop-holds Inv-loop μ-loop
 loop-holds c = (omega arith, grown-none _ _ _ _ _ _ (omega arith))

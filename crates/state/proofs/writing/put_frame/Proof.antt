@@ -9,12 +9,12 @@ use Rattle.state.proofs.Putting.{put-counted, none, _then_, _first_, fi
 use Rattle.state.proofs.writing.put_frame.Statement.{statement}
 use Rattle.state.proofs.writing.put_frame.Tie as tie
 
-slice-aggregate-put-row : tie.Need-slice-aggregate-put-row
-slice-aggregate-put-row c = search needs
+slice-aggregate-put-array : tie.Need-slice-aggregate-put-array
+slice-aggregate-put-array c = search needs
 
-put-row-requires : tie.Need-put-row-requires
-put-row-requires c κs =
-    let long : localsCount ≡ length (c .before .before .before .before .args .frame .locals) = slice-aggregate-put-row c in
+put-array-requires : tie.Need-put-array-requires
+put-array-requires c κs =
+    let long : localsCount ≡ length (c .before .before .before .before .args .frame .locals) = slice-aggregate-put-array c in
     omega arith
 
 add-put-pointer : tie.Need-add-put-pointer
@@ -39,7 +39,7 @@ returns c =
     let locals = r .before .before .before .before in
     let a = locals .before .before .before .before .before .args in
     fields-put frameFields (a .frame) (a .state .now) (a .at) _
-    (put-counted localsCount (a .frame .locals) (slice-aggregate-put-row (locals .before)) (locals .put-row .ensures)
+    (put-counted localsCount (a .frame .locals) (slice-aggregate-put-array (locals .before)) (locals .put-array .ensures)
     first r .put-pointer .ensures
     then address .put-cell .ensures
     then none)
@@ -48,8 +48,8 @@ pub put-frame-spec : {M : Type 1} → statement M
 put-frame-spec =
     tie.close
     (tie.spec
-    slice-aggregate-put-row
-    put-row-requires
+    slice-aggregate-put-array
+    put-array-requires
     add-put-pointer
     put-pointer-requires
     add-put-cell

@@ -9,12 +9,12 @@ use Rattle.state.proofs.Putting.{put-counted, none, _then_, _first_, fi
 use Rattle.state.proofs.writing.put_level.Statement.{statement}
 use Rattle.state.proofs.writing.put_level.Tie as tie
 
-slice-aggregate-put-row : tie.Need-slice-aggregate-put-row
-slice-aggregate-put-row c = search needs
+slice-aggregate-put-array : tie.Need-slice-aggregate-put-array
+slice-aggregate-put-array c = search needs
 
-put-row-requires : tie.Need-put-row-requires
-put-row-requires c κs =
-    let long : levelCells ≡ length (c .before .before .before .before .args .level .cells) = slice-aggregate-put-row c in
+put-array-requires : tie.Need-put-array-requires
+put-array-requires c κs =
+    let long : levelCells ≡ length (c .before .before .before .before .args .level .cells) = slice-aggregate-put-array c in
     omega arith
 
 add-put-pointer : tie.Need-add-put-pointer
@@ -46,7 +46,7 @@ returns c =
     let cells = s .before .before .before .before in
     let a = cells .before .before .before .before .before .args in
     fields-put levelFields (a .level) (a .state .now) (a .at) _
-    (put-counted levelCells (a .level .cells) (slice-aggregate-put-row (cells .before)) (cells .put-row .ensures)
+    (put-counted levelCells (a .level .cells) (slice-aggregate-put-array (cells .before)) (cells .put-array .ensures)
     first s .put-pointer .ensures
     then p .put-pointer2 .ensures
     then address .put-cell .ensures
@@ -56,8 +56,8 @@ pub put-level-spec : {M : Type 1} → statement M
 put-level-spec =
     tie.close
     (tie.spec
-    slice-aggregate-put-row
-    put-row-requires
+    slice-aggregate-put-array
+    put-array-requires
     add-put-pointer
     put-pointer-requires
     add-put-pointer-2

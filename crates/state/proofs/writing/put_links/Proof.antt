@@ -9,12 +9,12 @@ use Rattle.state.proofs.Putting.{put-counted, none, _then_, _first_, fi
 use Rattle.state.proofs.writing.put_links.Statement.{statement}
 use Rattle.state.proofs.writing.put_links.Tie as tie
 
-slice-aggregate-put-row : tie.Need-slice-aggregate-put-row
-slice-aggregate-put-row c = search needs
+slice-aggregate-put-array : tie.Need-slice-aggregate-put-array
+slice-aggregate-put-array c = search needs
 
-put-row-requires : tie.Need-put-row-requires
-put-row-requires c κs =
-    let long : returnsDepth ≡ length (c .before .before .before .before .before .before .args .links .returns) = slice-aggregate-put-row c in
+put-array-requires : tie.Need-put-array-requires
+put-array-requires c κs =
+    let long : returnsDepth ≡ length (c .before .before .before .before .before .before .args .links .returns) = slice-aggregate-put-array c in
     omega arith
 
 add-put-pointer : tie.Need-add-put-pointer
@@ -60,7 +60,7 @@ returns c =
     let returns = r .before .before .before .before in
     let a = returns .before .before .before .before .before .before .before .args in
     fields-put linksFields (a .links) (a .state .now) (a .at) _
-    (put-counted returnsDepth (a .links .returns) (slice-aggregate-put-row (returns .before)) (returns .put-row .ensures)
+    (put-counted returnsDepth (a .links .returns) (slice-aggregate-put-array (returns .before)) (returns .put-array .ensures)
     first r .put-pointer .ensures
     then frames .put-frames .ensures
     then s .put-pointer2 .ensures
@@ -72,8 +72,8 @@ pub put-links-spec : {M : Type 1} → statement M
 put-links-spec =
     tie.close
     (tie.spec
-    slice-aggregate-put-row
-    put-row-requires
+    slice-aggregate-put-array
+    put-array-requires
     add-put-pointer
     put-pointer-requires
     add-put-frames

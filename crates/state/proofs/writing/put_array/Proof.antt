@@ -5,8 +5,8 @@ use native.Mathlib.Omega.{arith}
 use lib.ListN.{length}
 use Rattle.state.specs.Layout.{cell}
 use Rattle.state.proofs.Putting.{Putting, putting-none, putting-more, putting-all}
-use Rattle.state.proofs.writing.put_row.Statement.{statement}
-use Rattle.state.proofs.writing.put_row.Tie as tie
+use Rattle.state.proofs.writing.put_array.Statement.{statement}
+use Rattle.state.proofs.writing.put_array.Tie as tie
 
 abbrev Inv-loop : tie.InvT-loop
 Inv-loop state₀ from cells i₀ state i = Putting cell state₀ from (length cells) cells state i
@@ -55,8 +55,8 @@ returns c =
     let a = c .before .before .before .before .args in
     putting-all cell (a .state .now) (a .from) (length (a .cells .now)) (a .cells .now) (c .before .loop .inv) (omega arith)
 
-pub put-row-spec : {M : Type 1} → statement M
-put-row-spec =
+pub put-array-spec : {M : Type 1} → statement M
+put-array-spec =
     tie.close
     (tie.spec
     Inv-loop

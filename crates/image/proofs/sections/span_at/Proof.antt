@@ -4,8 +4,8 @@ use Rattle.image.specs.Format.{countWidth}
 use Rattle.image.proofs.Reading.{was-inside}
 use Rattle.image.proofs.Stops.{cut-count, too-few, too-many, cut-elements, whole, small-product}
 use borrow.Author.Needs.{needs}
-use Rattle.image.proofs.sections.part_at.Statement.{statement}
-use Rattle.image.proofs.sections.part_at.Tie as tie
+use Rattle.image.proofs.sections.span_at.Statement.{statement}
+use Rattle.image.proofs.sections.span_at.Tie as tie
 
 read-four-requires : tie.Need-read-four-requires
 read-four-requires c κs = search needs
@@ -58,8 +58,8 @@ returns-5 c =
     whole _ _ _ _ (c .before .before .before .before .before .before .before .before .before .before .read-four .ensures) _ (c .before .before .before .before .before .before .before .before .number .given .1) _ (c .before .before .before .before .before .before .limits-of .ensures)
     (c .before .before .before .before .if1 .left) (c .before .before .if2 .left) (c .if3 .left)
 
-pub part-at-spec : {M : Type 1} → statement M
-part-at-spec =
+pub span-at-spec : {M : Type 1} → statement M
+span-at-spec =
     tie.close
     (tie.spec
     read-four-requires
