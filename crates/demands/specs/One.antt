@@ -3,6 +3,7 @@ use mathlib.Core.Path.{_≡_}
 use mathlib.Core.Bool.{true, false}
 use mathlib.Core.List.{List}
 use Prim.Native.Nat.{ℕ, _≤_}
+use Rattle.plain.specs.Answer.{notAsAsked}
 use Rattle.machine.specs.Run.{After, ended, acceptable}
 use Rattle.machine.specs.declared.Machine.{Machine}
 use Rattle.demands.specs.History.{world}
@@ -16,7 +17,7 @@ pub record One (mem : List ℕ) (m : Machine) (budget : ℕ) (a : After) : Type 
   -- it counts no more steps than its budget
   pub within-budget : a .ran .steps .0 ≤ budget
   -- answer 2 is for input that is not acceptable, with zero steps and cycles and everything as it was
-  pub untouched : a .ran .answer ≡ 2 → (acceptable mem m budget ≡ false) × (a ≡ ended 2 mem m 0 0)
+  pub untouched : a .ran .answer ≡ notAsAsked → (acceptable mem m budget ≡ false) × (a ≡ ended notAsAsked mem m 0 0)
   -- any other answer comes after completed instructions alone. Memory, machine and counters are as they left them: the budget is
   -- spent, or the instruction that the counter is on is refused with this answer and has altered nothing
-  pub as-before : (a .ran .answer ≡ 2 → ⊥) → (acceptable mem m budget ≡ true) × Course budget (world mem m) 0 0 a
+  pub as-before : (a .ran .answer ≡ notAsAsked → ⊥) → (acceptable mem m budget ≡ true) × Course budget (world mem m) 0 0 a

@@ -3,6 +3,7 @@ use mathlib.Core.List.{List}
 use mathlib.Core.Path.{_≡_}
 use Prim.Native.Nat.{ℕ}
 use lib.ListN.{length}
+use Rattle.plain.specs.Answer.{notAsAsked}
 use Rattle.machine.specs.Run.{After, runOf}
 use Rattle.machine.specs.declared.Machine.{Machine}
 use Rattle.state.specs.Layout as layout
@@ -29,7 +30,7 @@ handedBack after =
 -- else the machine whose bytes the state is runs on the memory, and the bytes can carry the machine that it leaves
 pub data Hands (state memory : List ℕ) (budget : ℕ) (result : List ℕ) : Handed → Type 0 where
   wrong-length : ((length state ≡ layout.state .width) × (length result ≡ layout.result .width) → ⊥)
-      → Hands state memory budget result (record { number = 2; state = state; memory = memory; result = result })
+      → Hands state memory budget result (record { number = notAsAsked; state = state; memory = memory; result = result })
   run : (m : Machine) → length state ≡ layout.state .width → length result ≡ layout.result .width
       → layout.state .Fits m → layout.state .bytes m ≡ state → layout.state .Fits (runOf memory m budget .ran .machine)
       → Hands state memory budget result (handedBack (runOf memory m budget))

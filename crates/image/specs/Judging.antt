@@ -25,7 +25,7 @@ use Rattle.image.specs.declared.Judged.the-variants as judged
 abbrev pub badFile : ℕ
 badFile = 14
 
--- what is found: a number, with the clause that fails and its place; or what stands in the file
+-- a judge fails a file, with a number, the clause that it does not meet and the place; or finds what it holds
 pub data Finding (A : Type 0) : Type 0 where
   fails : ℕ → Fault → Finding A
   finds : A → Finding A

@@ -3,7 +3,7 @@ use mathlib.Core.List.{List}
 use mathlib.Core.Path.{_≡_}
 use Prim.Native.Nat.{ℕ}
 use lib.ListN.{length}
-use Rattle.plain.specs.Answer.{Answer, refuses, gives}
+use Rattle.plain.specs.Answer.{Answer, refuses, gives, notAsAsked}
 use Rattle.plain.specs.Zeros.{padded}
 use Rattle.machine.specs.Limits.{memoryLength}
 use Rattle.machine.specs.declared.Machine.{Machine}
@@ -16,7 +16,7 @@ use Rattle.image.specs.declared.Verdict.the-variants.{Good, Refused}
 
 -- the number of a lent memory of another length
 abbrev pub otherMemory : ℕ
-otherMemory = 2
+otherMemory = notAsAsked
 
 -- what a verdict says: a good file has no number
 abbrev pub saysVerdict : Verdict → Answer (Unit {0})

@@ -7,7 +7,7 @@ use lib.Dec.{ltb, leb}
 use lib.ListN.{set, replicate}
 use Rattle.plain.specs.Choice.{pick, both}
 use Rattle.links.specs.Depths.{localsCount}
-use Rattle.links.specs.Linked.{frameAt, levelAt, copyOfR, copyOfS, copyOfP}
+use Rattle.links.specs.Linked.{frameAt, levelAt, copyOfR, copyOfS}
 use Rattle.links.specs.declared.Frame.{Frame}
 use Rattle.links.specs.declared.Level.{Level}
 use Rattle.links.specs.declared.Links.{Links}
@@ -103,10 +103,6 @@ thrownS l = copyOfS (l .levels) (l .e)
 -- R after a THROW: the copy in the subroutine level above that S
 abbrev pub thrownR : Links → ℕ
 thrownR l = copyOfR (l .frames) (suc (thrownS l))
-
--- P after a THROW: its copy, and the code pushed on it
-abbrev pub thrownP : Links → ℕ
-thrownP l = suc (copyOfP (l .levels) (l .e))
 
 abbrev pub act : Act → Links → Links
 act still l = l

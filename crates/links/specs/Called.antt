@@ -1,4 +1,4 @@
--- What a call and a CATCH make, field by field.
+-- What a call and a CATCH push, field by field; that they leave the rest as it was is not said here.
 use mathlib.Core.Path.{_≡_}
 use Prim.Native.Nat.{ℕ, suc, _+_, _%_, _^_, _<_}
 use lib.ListN.{length, getD}
@@ -6,7 +6,7 @@ use Rattle.links.specs.Depths.{localsCount}
 use Rattle.links.specs.Linked.{frameAt, levelAt}
 use Rattle.links.specs.declared.Links.{Links}
 
--- l is o after a call with this return address: it stands in a new return cell and in a new subroutine level, with R as it was;
+-- a call with this return address leads from o to l: it stands in a new return cell and in a new subroutine level, with R as it was;
 -- the level has 16 locals, all zero
 pub record Called (address : ℕ) (o l : Links) : Type 0 where
   pub one-cell : l .r ≡ suc (o .r)
@@ -17,7 +17,7 @@ pub record Called (address : ℕ) (o l : Links) : Type 0 where
   pub sixteen : length (frameAt l (suc (o .s)) .locals) ≡ localsCount
   pub cleared : (i d : ℕ) → i < localsCount → getD (frameAt l (suc (o .s)) .locals) i d ≡ 0
 
--- l is o after a CATCH: a call, and an exception level with the cells of the one below it, S as it was, P after the address was taken,
+-- a CATCH leads from o to l: a call, and an exception level with the cells of the one below it, S as it was, P after the address was taken,
 -- and the throw address, one above the return address
 pub record Caught (address p : ℕ) (o l : Links) : Type 0 where
   pub call : Called address o l

@@ -1,10 +1,11 @@
--- What a THROW of non-zero leaves.
+-- Where a THROW of non-zero goes on, and what S, R and P then are.
 use mathlib.Core.Path.{_≡_}
 use Prim.Native.Nat.{suc}
 use Rattle.links.specs.Linked.{levelAt, copyOfR, copyOfS, copyOfP}
 use Rattle.machine.specs.declared.Machine.{Machine}
 
--- a THROW that is thrown: on at the throw address, S and R by the copies (R from the level above S), P by its copy and one for the code
+-- m′ follows m by a THROW: on at the throw address, S and R by the copies (R from the level above S), P by its copy and one for the code;
+-- what else m′ holds is not said here
 pub record AfterThrow (m m′ : Machine) : Type 0 where
   pub goes : m′ .counter ≡ levelAt (m .links) (m .links .e) .address
   pub s-copied : m′ .links .s ≡ copyOfS (m .links .levels) (m .links .e)

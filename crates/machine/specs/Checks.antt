@@ -76,8 +76,3 @@ tests i m row =
     test 12 (lacks row aPlace) ∷
     -- divisor zero
     test 13 (lacks row aDivisor) ∷ []
-
--- whether the test with this number holds, wherever it stands in the list
-abbrev pub holdsAt : ℕ → List Test → Bool
-holdsAt number [] = false
-holdsAt number (t ∷ ts) = pick (eqb (t .number) number) (t .holds) (holdsAt number ts)

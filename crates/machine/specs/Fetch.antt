@@ -1,9 +1,8 @@
 -- The instruction at the program counter: its code, its operand and the address of the following instruction.
-use mathlib.Core.Bool.{Bool, true}
+use mathlib.Core.Bool.{Bool}
 use mathlib.Core.List.{List}
 use Prim.Native.Nat.{ℕ, _+_, _-_, _*_, _/_, _%_, _^_}
 use lib.Dec.{ltb}
-use Rattle.plain.specs.Choice.{pick}
 use Rattle.numbers.specs.Bytes.{byteAt, numberAt}
 use Rattle.machine.specs.Limits.{memoryLength}
 use Rattle.machine.specs.Codes.{Operand, none, number, offset, bytesWith, Entry, entryAt}
@@ -33,14 +32,14 @@ operandAt none mem a = 0
 operandAt (number bytes) mem a = numberAt bytes mem (a + 1)
 operandAt offset mem a = targetAt mem a
 
--- a code with its entry, at an address: the first byte is tested first; addresses of instructions wrap
+-- a code with its entry, at an address; addresses of instructions wrap
 abbrev pub instruction : ℕ → Entry → List ℕ → ℕ → Instruction
 instruction code e mem a =
     record {
       code = code;
       operand = operandAt (e .operand) mem a;
       next = (a + bytesWith (e .operand)) % 2 ^ 32;
-      outside = pick (ltb a memoryLength) (ltb memoryLength (a + bytesWith (e .operand))) true;
+      outside = ltb memoryLength (a + bytesWith (e .operand));
     }
 
 unfoldable pub instructionAt : List ℕ → ℕ → Instruction

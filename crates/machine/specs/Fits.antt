@@ -4,7 +4,6 @@ use Prim.Native.Nat.{ℕ, _^_, _<_}
 use Rattle.plain.specs.All.{All}
 use Rattle.links.specs.Fits.{CellFits, PointerFits, LinksFit}
 use Rattle.machine.specs.State.{Whole}
-use Rattle.machine.specs.Run.{After}
 use Rattle.machine.specs.declared.Machine.{Machine}
 
 pub record Fits (m : Machine) : Type 0 where
@@ -23,7 +22,3 @@ pub record Exist (mem : List ℕ) (m : Machine) : Type 0 where
   pub whole : Whole m
   pub fits : Fits m
   pub bytes : AllBytes mem
-
--- so do those that a run leaves
-abbrev pub ExistAfter : After → Type 0
-ExistAfter a = Exist (a .memory) (a .ran .machine)

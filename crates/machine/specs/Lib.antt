@@ -18,7 +18,7 @@ pub mod Step
 pub mod Run
 -- the starred lines of the bench sheet
 pub mod Sheet
--- what a THROW of non-zero leaves
+-- where a THROW of non-zero goes on, and what S, R and P then are
 pub mod AfterThrow
 -- what a machine and a memory that exist can hold
 pub mod Fits

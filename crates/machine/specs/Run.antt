@@ -4,6 +4,7 @@ use mathlib.Core.List.{List}
 use Prim.Native.Nat.{ℕ, zero, suc, _+_, _*_, _≤_}
 use lib.Dec.{leb, eqb}
 use lib.ListN.{length}
+use Rattle.plain.specs.Answer.{notAsAsked}
 use Rattle.plain.specs.Choice.{both}
 use Rattle.machine.specs.Limits.{memoryLength, mostBudget}
 use Rattle.machine.specs.State.{wellFormed}
@@ -42,10 +43,10 @@ runFrom (suc left) mem m steps cycles =
 unfoldable pub acceptable : List ℕ → Machine → ℕ → Bool
 acceptable mem m budget = both (eqb (length mem) memoryLength) (both (leb budget mostBudget) (wellFormed m))
 
--- answer 2 is tested before the first instruction, and alters nothing
+-- what is not as asked is refused before the first instruction, and nothing is altered
 unfoldable pub runOf : List ℕ → Machine → ℕ → After
 runOf mem m budget =
     elim (acceptable mem m budget) [
       | true ↦ runFrom budget mem m 0 0
-      | false ↦ ended 2 mem m 0 0
+      | false ↦ ended notAsAsked mem m 0 0
     ]

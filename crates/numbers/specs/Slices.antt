@@ -5,7 +5,7 @@ use Prim.Native.Nat.{ℕ, _+_}
 use lib.Dec.{leb}
 use lib.ListN.{length}
 use lib.Seq.{sets}
-use Rattle.plain.specs.Answer.{Answer, refuses, gives}
+use Rattle.plain.specs.Answer.{Answer, refuses, gives, notAsAsked}
 use Rattle.plain.specs.Choice.{pick}
 use Rattle.numbers.specs.Bytes.{numberAt, bytesOf}
 use Rattle.numbers.specs.declared.Found.{Found}
@@ -22,7 +22,7 @@ inside n bytes a = leb (a + n) (length bytes)
 
 -- the number of a slice that is too short, as of any lent buffer
 abbrev pub tooShort : ℕ
-tooShort = 2
+tooShort = notAsAsked
 
 abbrev pub saysFound : Found → Answer ℕ
 saysFound (Number v) = gives v

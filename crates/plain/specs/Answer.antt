@@ -4,3 +4,7 @@ use Prim.Native.Nat.{ℕ}
 pub data Answer {ℓ} (A : Type ℓ) : Type ℓ where
   refuses : ℕ → Answer A
   gives : A → Answer A
+
+-- the number of what is handed in and not as asked: a memory, a budget, a state, a lent buffer
+abbrev pub notAsAsked : ℕ
+notAsAsked = 2

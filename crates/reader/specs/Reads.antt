@@ -3,7 +3,7 @@ use mathlib.Core.List.{List, [], _∷_}
 use mathlib.Core.Path.{_≡_}
 use Prim.Native.Nat.{ℕ}
 use lib.ListN.{length}
-use Rattle.plain.specs.Answer.{gives}
+use Rattle.plain.specs.Answer.{gives, notAsAsked}
 use Rattle.image.specs.Loading.{Reading, Read, refusedWith}
 use Rattle.state.specs.Parts.{Part, Field, _of_, fields}
 use Rattle.state.specs.Layout as layout
@@ -41,7 +41,7 @@ handedOut reading =
 -- number, and both touch nothing; else the state is the machine that was read and the result its budget, and the bytes can carry both
 pub data Reads (image memory state result : List ℕ) : HandedOut → Type 0 where
   wrong-length : ((length state ≡ layout.state .width) × (length result ≡ beside .width) → ⊥)
-      → Reads image memory state result (record { number = 2; state = state; memory = memory; result = result })
+      → Reads image memory state result (record { number = notAsAsked; state = state; memory = memory; result = result })
   refused : (number : ℕ) → length state ≡ layout.state .width → length result ≡ beside .width
       → Read image memory memory (refusedWith number)
       → Reads image memory state result (record { number = number; state = state; memory = memory; result = result })

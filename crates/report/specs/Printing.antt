@@ -3,7 +3,7 @@ use mathlib.Core.List.{List, _++_}
 use Prim.Native.Nat.{ℕ}
 use lib.Dec.{leb}
 use lib.ListN.{length, drop}
-use Rattle.plain.specs.Answer.{Answer, refuses, gives}
+use Rattle.plain.specs.Answer.{Answer, refuses, gives, notAsAsked}
 use Rattle.plain.specs.Choice.{pick}
 use Rattle.machine.specs.declared.Ran.{Ran}
 use Rattle.report.specs.Text.{textOf, refusalText}
@@ -22,7 +22,7 @@ pub record Reported : Type 0 where
 
 -- a buffer too short, or a state that is none
 abbrev pub untouched : List ℕ → Reported
-untouched out = record { printed = refuses 2; out = out }
+untouched out = record { printed = refuses notAsAsked; out = out }
 
 -- the text from the start of the buffer, the rest as it was; a buffer too short is untouched
 unfoldable pub printedIn : List ℕ → List ℕ → Reported

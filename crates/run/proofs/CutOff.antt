@@ -4,8 +4,7 @@ use mathlib.Core.Bool.{Bool, true, false}
 use mathlib.Core.List.{List}
 use Prim.Native.Nat.{ℕ, _+_, _≤_, _<_}
 use native.Mathlib.Omega.{arith}
-use borrow.Author.Tests.{ltb-true, ltb-false}
-use lib.Dec.{ltb}
+use borrow.Author.Tests.{ltb-true}
 use lib.ListN.{length, List·getD-eq-default}
 use Rattle.plain.specs.Answer.{refuses, gives}
 use Rattle.plain.specs.Choice.{pick}
@@ -47,21 +46,13 @@ exit-follows = refl
 no-exit : (mem : List ℕ) (m : Machine) → length mem ≡ memoryLength → instructionAt mem (m .counter) .outside ≡ true →
     byteAt mem (m .counter) ≡ 0x3D → ⊥
 unfolding instructionAt
-no-exit mem m long out e = go (ltb (m .counter) memoryLength) refl out
-  where
-    size : ℕ
-    size = bytesWith (entryAt (byteAt mem (m .counter)) .operand)
-
-    go : (b : Bool) → ltb (m .counter) memoryLength ≡ b → pick b (ltb memoryLength (m .counter + size)) true ≡ true → ⊥
-    go true h o =
-        let low = ltb-true (m .counter) memoryLength h in
-        let one : size ≡ 1 = ap (λ (n : ℕ). bytesWith (entryAt n .operand)) e ∙ exit-follows in
-        let t : memoryLength < m .counter + size = ltb-true memoryLength (m .counter + size) o in
-        omega (arith, one)
-    go false h o =
-        let past : length mem ≤ m .counter = omega (arith, ltb-false (m .counter) memoryLength h) in
-        let z : byteAt mem (m .counter) ≡ 0 = List·getD-eq-default mem 0 past in
-        omega arith
+no-exit mem m long out e =
+    let size = bytesWith (entryAt (byteAt mem (m .counter)) .operand) in
+    let one : size ≡ 1 = ap (λ (n : ℕ). bytesWith (entryAt n .operand)) e ∙ exit-follows in
+    let cut : memoryLength < m .counter + size = ltb-true memoryLength (m .counter + size) out in
+    let past : length mem ≤ m .counter = omega (arith, one, cut) in
+    let zero : byteAt mem (m .counter) ≡ 0 = List·getD-eq-default mem 0 past in
+    omega (arith, zero, e)
 
 -- test 0 does not hold where a byte is outside memory
 not-finished : (mem : List ℕ) (m : Machine) → length mem ≡ memoryLength → instructionAt mem (m .counter) .outside ≡ true →

@@ -3,7 +3,7 @@ use mathlib.Core.List.{List}
 use mathlib.Core.Path.{_≡_}
 use Prim.Native.Nat.{ℕ}
 use lib.ListN.{length}
-use Rattle.plain.specs.Answer.{Answer, refuses, gives}
+use Rattle.plain.specs.Answer.{Answer, refuses, gives, notAsAsked}
 use Rattle.machine.specs.declared.Machine.{Machine}
 use Rattle.machine.specs.State.{freshMachine}
 use Rattle.state.specs.Parts.{Part}
@@ -18,11 +18,11 @@ saysVerdict (Refused number) = refuses number
 
 -- `Takes bytes answer m`: another length is 2, with a fresh machine; else the machine whose bytes these are
 pub data Takes (bytes : List ℕ) : Answer (Unit {0}) → Machine → Type 0 where
-  wrong-length : (length bytes ≡ state .width → ⊥) → Takes bytes (refuses 2) freshMachine
+  wrong-length : (length bytes ≡ state .width → ⊥) → Takes bytes (refuses notAsAsked) freshMachine
   spelled : (m : Machine) → length bytes ≡ state .width → state .Fits m → state .bytes m ≡ bytes → Takes bytes (gives tt) m
 
 -- `Gives part x before answer after`: another length is 2, and the lent buffer is untouched; else it is the bytes of x,
 -- which by its type they can carry
 pub data Gives {A : Type 0} (part : Part A) (x : A) (before : List ℕ) : Answer (Unit {0}) → List ℕ → Type 0 where
-  wrong-size : (length before ≡ part .width → ⊥) → Gives part x before (refuses 2) before
+  wrong-size : (length before ≡ part .width → ⊥) → Gives part x before (refuses notAsAsked) before
   filled : length before ≡ part .width → part .Fits x → Gives part x before (gives tt) (part .bytes x)

@@ -1,5 +1,5 @@
 -- Operations on the bits of cells, each bit for itself; the flag stays as it came.
-use Prim.Native.Nat.{ℕ, _-_, _/_, _^_, _%_}
+use Prim.Native.Nat.{ℕ, _-_, _^_}
 use lib.Bits.{bitAnd, bitOr, bitXor}
 use Rattle.word.specs.declared.Changed.{Changed}
 use Rattle.word.specs.declared.Outcome.{Outcome}
@@ -20,7 +20,3 @@ invertOf x flag = record { value = 2 ^ 32 - 1 - x; flag = flag }
 -- XOR
 abbrev pub xorBitsOf : ℕ → ℕ → ℕ → Outcome
 xorBitsOf x y flag = Single (bitXor x y) flag
-
--- bit k of a number, in which the theorems say what these mean
-abbrev pub bitAt : ℕ → ℕ → ℕ
-bitAt k x = x / 2 ^ k % 2

@@ -5,7 +5,7 @@ use mathlib.Core.Bool.{Bool, true, false}
 use mathlib.Core.List.{List, [], _∷_}
 use Prim.Native.Nat.{ℕ, _+_, _-_, _%_, _^_, _<_, _≤_}
 use native.Mathlib.Omega.{arith}
-use borrow.Author.Tests.{lt-ltb, le-ltb, lt-leb}
+use borrow.Author.Tests.{le-ltb, lt-leb}
 use Rattle.plain.specs.Choice.{pick}
 use Rattle.numbers.specs.Bytes.{byteAt}
 use Rattle.links.specs.Depths.{cellsDepth, returnsDepth, subroutinesDepth, exceptionsDepth}
@@ -45,7 +45,7 @@ fetched : (mem : List ℕ) (a : ℕ) → byteAt mem a ≡ 0x0B → a < memoryLen
 unfolding instructionAt entryAt table
 fetched mem a is below =
     ap (λ (code : ℕ). instruction code (entryAt code) mem a) is ∙
-    rw (lt-ltb a memoryLength below, le-ltb memoryLength (a + 1) (omega arith))
+    rw (le-ltb memoryLength (a + 1) (omega arith))
 
 -- it is carried out where there is an address to take and room on the three stacks
 pub catch-goes : (mem : List ℕ) (m : Machine) → byteAt mem (m .counter) ≡ 0x0B → m .counter < memoryLength →

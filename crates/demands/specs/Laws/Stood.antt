@@ -7,10 +7,10 @@ use native.Mathlib.Omega.{arith}
 use borrow.Author.Tests.{eqb-false, ltb-false}
 use lib.ListN.{length, getD}
 use lib.Seq.{sets, getD-set-same}
-use Rattle.links.specs.Actions.{Act, catch, throw, reset, act, thrownP}
+use Rattle.links.specs.Actions.{Act, catch, throw, reset, act}
 use Rattle.links.specs.Allowed.{Allowed}
 use Rattle.links.specs.Restored.{Restored}
-use Rattle.links.specs.Laws.Stands.{Stands, Gone, by-reset, by-exit as links-exit, by-pop as links-pop, by-throw as links-throw}
+use Rattle.links.specs.Laws.Stands.{Stands, thrownP, Gone, by-reset, by-exit as links-exit, by-pop as links-pop, by-throw as links-throw}
 use Rattle.links.specs.Laws.Standing.{caught, next}
 use Rattle.links.specs.declared.Links.{Links}
 use Rattle.machine.specs.Codes.{Link, R>, RESETSP, THROW, EXIT, Op, LINK, entryAt, table}

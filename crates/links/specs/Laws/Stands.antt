@@ -5,7 +5,7 @@ use Prim.Native.Nat.{ℕ, suc, _<_, _≤_}
 use native.Mathlib.Omega.{arith}
 use lib.ListN.{getD, take}
 use lib.Seq.{getD-take}
-use Rattle.links.specs.Actions.{Act, exit, pop, throw, reset, act, thrownP}
+use Rattle.links.specs.Actions.{Act, exit, pop, throw, reset, act}
 use Rattle.links.specs.Linked.{Shaped, frameAt, levelAt, noFrame, noLevel, copyOfR, copyOfS, copyOfP}
 use Rattle.links.specs.Restored.{Restored}
 use Rattle.links.specs.Laws.Sound.{Sound}
@@ -24,6 +24,10 @@ pub record Stands (o : Links) (p : ℕ) (l : Links) : Type 0 where
   pub same-returns : take (o .r) (l .returns) ≡ take (o .r) (o .returns)
   pub same-frames : take (suc (o .s)) (l .frames) ≡ take (suc (o .s)) (o .frames)
   pub same-levels : take (suc (o .e)) (l .levels) ≡ take (suc (o .e)) (o .levels)
+
+-- P after a THROW: its copy, and the code pushed on it
+abbrev pub thrownP : Links → ℕ
+thrownP l = suc (copyOfP (l .levels) (l .e))
 
 -- the action took the exception level away: a reset, or else the links are restored; after a THROW P is then one more than p,
 -- since the code stands where the address stood

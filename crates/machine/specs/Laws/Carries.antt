@@ -26,7 +26,7 @@ use Rattle.machine.specs.Fetch.{Instruction, operandAt, instructionAt}
 use Rattle.machine.specs.Rows.{Row, top, second, topReturn, localsInView, cellsInView, cellsRow, throwRow, rowOf, linkRow, shuffled, target, twoRow, fetchRow, storeRow}
 use Rattle.machine.specs.Step.{Stepped, refused, done, stepOf, rowAt}
 use Rattle.machine.specs.Run.{After, ended, runFrom, acceptable, runOf}
-use Rattle.machine.specs.Fits.{Fits, AllBytes, Exist, ExistAfter}
+use Rattle.machine.specs.Fits.{Fits, AllBytes, Exist}
 use Rattle.machine.specs.Laws.Tables.{Everywhere, at-code}
 use Rattle.machine.specs.Laws.Passed.{step-done}
 use Rattle.machine.specs.Laws.Kept.{Formed, allowed-at, step-kept}
@@ -232,6 +232,9 @@ step-carries mem m mem′ m′ k formed x e =
     }
 
 -- so does what a run leaves, whatever its answer
+abbrev ExistAfter : After → Type 0
+ExistAfter a = Exist (a .memory) (a .ran .machine)
+
 step-on : (s : Stepped) (left n c : ℕ) (mem : List ℕ) (m : Machine) → stepOf mem m ≡ s → Formed m → Exist mem m →
     ((mem′ : List ℕ) (m′ : Machine) (n′ c′ : ℕ) → Formed m′ → Exist mem′ m′ → ExistAfter (runFrom left mem′ m′ n′ c′)) →
     ExistAfter
@@ -249,7 +252,8 @@ rest-carries zero mem m n c formed x = x
 rest-carries (suc left) mem m n c formed x =
     step-on (stepOf mem m) left n c mem m refl formed x (λ mem′ m′ n′ c′. rest-carries left mem′ m′ n′ c′)
 
-pub run-carries : (mem : List ℕ) (m : Machine) (budget : ℕ) → Exist mem m → ExistAfter (runOf mem m budget)
+pub run-carries : (mem : List ℕ) (m : Machine) (budget : ℕ) → Exist mem m →
+    Exist (runOf mem m budget .memory) (runOf mem m budget .ran .machine)
 unfolding runOf
 run-carries mem m budget x = go (acceptable mem m budget) refl
   where

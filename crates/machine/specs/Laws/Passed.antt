@@ -7,7 +7,7 @@ use native.Mathlib.Omega.{arith}
 use lib.Dec.{eqb}
 use Rattle.plain.specs.Choice.{pick}
 use Rattle.machine.specs.Fetch.{instructionAt}
-use Rattle.machine.specs.Checks.{Test, holdsAt}
+use Rattle.machine.specs.Checks.{Test}
 use Rattle.machine.specs.Step.{Stepped, refused, done, put, costOf, unless, carried, rowAt, testsAt, stepOf}
 use Rattle.machine.specs.declared.Machine.{Machine}
 
@@ -30,7 +30,12 @@ unless-done (t ∷ ts) result mem m k e = go (t .holds) refl e (unless-done ts r
     go true h e later = let z : _≡_ {A = ℕ} 0 1 = cc in absurd (omega arith)
     go false h e later = record { passed = (h, later e .passed); same = later e .same }
 
--- so does none by its number
+-- whether the test with this number holds, wherever it stands in the list
+abbrev pub holdsAt : ℕ → List Test → Bool
+holdsAt number [] = false
+holdsAt number (t ∷ ts) = pick (eqb (t .number) number) (t .holds) (holdsAt number ts)
+
+-- where none holds, none does by its number
 pub passed-at : (number : ℕ) (ts : List Test) → AllPass ts → holdsAt number ts ≡ false
 passed-at number [] h = refl
 passed-at number (t ∷ ts) h = go (passed-at number ts (h .1)) (eqb (t .number) number)

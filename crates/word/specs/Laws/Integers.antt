@@ -4,11 +4,16 @@ use mathlib.Core.Bool.{Bool, true, false, cond}
 use Prim.Native.Nat.{ℕ, zero, suc, _+_, _-_, _*_, _%_, _≤_, _<_}
 use native.Mathlib.Nat.{mul-zero, zero-mul, mod-self, mod-eq-of-lt}
 use native.Mathlib.Omega.{arith}
-use lib.IntN.{pos, negsuc, negℤ, subℕ, _+ℤ_, _-ℤ_, _*ℤ_, negℤ-+ℤ, +ℤ-comm}
+use lib.IntN.{ℤ, pos, negsuc, negℤ, subℕ, _+ℤ_, _-ℤ_, _*ℤ_, negℤ-+ℤ, +ℤ-comm}
 use borrow.Author.Tests.{lt-ltb, le-ltb}
-use Rattle.word.specs.Integers.{signedAt, signedBy}
+use Rattle.word.specs.Integers.{signedAt}
 use Rattle.word.specs.Quotients.{apart}
 use Rattle.word.specs.Laws.Tests.{either-order}
+
+-- the integer of a sign, true below zero, and a size
+abbrev pub signedBy : Bool → ℕ → ℤ
+signedBy true size = negℤ (pos size)
+signedBy false size = pos size
 
 -- a size taken from zero in a range, or as it is
 abbrev pub heldAt : ℕ → Bool → ℕ → ℕ

@@ -6,8 +6,8 @@ use native.Mathlib.Omega.{arith}
 use lib.IntN.{pos, negℤ, natAbs}
 use borrow.Author.Tests.{leb-true, leb-false}
 use Rattle.word.specs.Quotients.{isNegative, magnitudeOf, withSign}
-use Rattle.word.specs.Integers.{signed, signedBy}
-use Rattle.word.specs.Laws.Integers.{heldAt, signed-low, signed-high, read-back}
+use Rattle.word.specs.Integers.{signed}
+use Rattle.word.specs.Laws.Integers.{signedBy, heldAt, signed-low, signed-high, read-back}
 
 pub magnitude-le : (x : ℕ) → x < 2 ^ 32 → magnitudeOf x ≤ 2 ^ 31
 magnitude-le x hx = go (isNegative x) refl

@@ -1,4 +1,4 @@
--- Made by .ci/named from literal_long.rules: 904910422982745a 759b273be9f0e276
+-- Made by .ci/named from literal_long.rules: 1ee81a5e4b5c8d09 9e9f63139d1175d2
 -- The code's entry says how many bytes follow.
 use mathlib.Core.Path.{refl}
 use native.Mathlib.Omega.{arith}
@@ -13,7 +13,7 @@ add-if1 c = search needs
 
 returns : tie.Need-returns
 unfolding entryAt table
-returns c = λ stands. cut (c .before .before .args .mem .now) (c .before .before .args .counter) 0x36 (number 4) stands refl (omega arith) (c .if1 .taken)
+returns c = λ stands. cut (c .before .before .args .mem .now) (c .before .before .args .counter) 0x36 (number 4) stands refl (c .if1 .taken)
 
 add-literal-long : tie.Need-add-literal-long
 add-literal-long c = search needs
@@ -26,7 +26,7 @@ wrapping-add-u32-requires c κs = search needs
 
 returns-2 : tie.Need-returns-2
 unfolding entryAt table
-returns-2 c = λ stands. whole (c .before .before .before .before .args .mem .now) (c .before .before .before .before .args .counter) 0x36 (number 4) stands refl (omega arith) (c .before .literal-long .result) (c .wrapping-add-u32 .result) (omega arith) (c .before .literal-long .ensures) (c .wrapping-add-u32 .ensures)
+returns-2 c = λ stands. whole (c .before .before .before .before .args .mem .now) (c .before .before .before .before .args .counter) 0x36 (number 4) stands refl (c .before .literal-long .result) (c .wrapping-add-u32 .result) (omega arith) (c .before .literal-long .ensures) (c .wrapping-add-u32 .ensures)
 
 pub literal-long-spec : {M : Type 1} → statement M
 literal-long-spec =

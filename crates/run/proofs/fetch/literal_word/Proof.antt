@@ -1,4 +1,4 @@
--- Made by .ci/named from literal_word.rules: 19ffdee5d35b2288 c9591f364dae5ebe
+-- Made by .ci/named from literal_word.rules: c287b33d10dd8486 cbc98d1f72685bb8
 -- The code's entry says how many bytes follow.
 use mathlib.Core.Path.{refl}
 use native.Mathlib.Omega.{arith}
@@ -13,7 +13,7 @@ add-if1 c = search needs
 
 returns : tie.Need-returns
 unfolding entryAt table
-returns c = λ stands. cut (c .before .before .args .mem .now) (c .before .before .args .counter) 0x35 (number 2) stands refl (omega arith) (c .if1 .taken)
+returns c = λ stands. cut (c .before .before .args .mem .now) (c .before .before .args .counter) 0x35 (number 2) stands refl (c .if1 .taken)
 
 add-literal-word : tie.Need-add-literal-word
 add-literal-word c = search needs
@@ -26,7 +26,7 @@ wrapping-add-u32-requires c κs = search needs
 
 returns-2 : tie.Need-returns-2
 unfolding entryAt table
-returns-2 c = λ stands. whole (c .before .before .before .before .args .mem .now) (c .before .before .before .before .args .counter) 0x35 (number 2) stands refl (omega arith) (c .before .literal-word .result) (c .wrapping-add-u32 .result) (omega arith) (c .before .literal-word .ensures) (c .wrapping-add-u32 .ensures)
+returns-2 c = λ stands. whole (c .before .before .before .before .args .mem .now) (c .before .before .before .before .args .counter) 0x35 (number 2) stands refl (c .before .literal-word .result) (c .wrapping-add-u32 .result) (omega arith) (c .before .literal-word .ensures) (c .wrapping-add-u32 .ensures)
 
 pub literal-word-spec : {M : Type 1} → statement M
 literal-word-spec =

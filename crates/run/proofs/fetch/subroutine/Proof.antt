@@ -1,4 +1,4 @@
--- Made by .ci/named from subroutine.rules: dd54c00d5cc8a746 965cf9c6d5af8593
+-- Made by .ci/named from subroutine.rules: 595d13234abb992d b905fa3645b003a2
 -- The code's entry says how many bytes follow.
 use mathlib.Core.Path.{refl}
 use native.Mathlib.Omega.{arith}
@@ -13,7 +13,7 @@ add-if1 c = search needs
 
 returns : tie.Need-returns
 unfolding entryAt table
-returns c = λ stands. cut (c .before .before .args .mem .now) (c .before .before .args .counter) 0x38 (number 3) stands refl (omega arith) (c .if1 .taken)
+returns c = λ stands. cut (c .before .before .args .mem .now) (c .before .before .args .counter) 0x38 (number 3) stands refl (c .if1 .taken)
 
 add-read-triple : tie.Need-add-read-triple
 add-read-triple c = search needs
@@ -26,7 +26,7 @@ wrapping-add-u32-requires c κs = search needs
 
 returns-2 : tie.Need-returns-2
 unfolding entryAt table
-returns-2 c = λ stands. whole (c .before .before .before .before .args .mem .now) (c .before .before .before .before .args .counter) 0x38 (number 3) stands refl (omega arith) (c .before .read-triple .result) (c .wrapping-add-u32 .result) (omega arith) (c .before .read-triple .ensures) (c .wrapping-add-u32 .ensures)
+returns-2 c = λ stands. whole (c .before .before .before .before .args .mem .now) (c .before .before .before .before .args .counter) 0x38 (number 3) stands refl (c .before .read-triple .result) (c .wrapping-add-u32 .result) (omega arith) (c .before .read-triple .ensures) (c .wrapping-add-u32 .ensures)
 
 pub subroutine-spec : {M : Type 1} → statement M
 subroutine-spec =

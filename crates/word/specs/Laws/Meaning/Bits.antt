@@ -6,9 +6,13 @@ use native.Mathlib.Omega.{arith}
 use lib.Arith.{digits-div}
 use lib.Bits.{bitAnd, bitOr, bitXor, differ, and-shr, or-shr, xor-shr, and-step, or-step, xor-step}
 use lib.Pow.{pow-pos, pow-add, split, field, mod-mod-pow, shr-shr, shr-lt, shl-shr}
-use Rattle.word.specs.Bits.{bitAt, andBitsOf, orBitsOf, invertOf, xorBitsOf}
+use Rattle.word.specs.Bits.{andBitsOf, orBitsOf, invertOf, xorBitsOf}
 use Rattle.word.specs.Shifts.{shiftLeftOf, shiftRightOf}
 use Rattle.word.specs.declared.Outcome.the-variants.{Single}
+
+-- bit k of a number
+abbrev pub bitAt : ℕ → ℕ → ℕ
+bitAt k x = x / 2 ^ k % 2
 
 -- what takes two numbers bit by bit, from the least up: each bit of the result is made of the bits at its place
 bitwise : (made bit : ℕ → ℕ → ℕ) →

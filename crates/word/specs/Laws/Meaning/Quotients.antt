@@ -10,8 +10,8 @@ use lib.IntN.{ℤ, _+ℤ_, _*ℤ_, natAbs}
 use borrow.Author.Tests.{ne-eqb, leb-true, leb-false}
 use Rattle.word.specs.Quotients.{unlessZero, isNegative, magnitudeOf, withSign, apart, divideSignedOf, divideUnsignedOf}
 use Rattle.word.specs.Laws.Tests.{either-order}
-use Rattle.word.specs.Integers.{signed, signedBy}
-use Rattle.word.specs.Laws.Integers.{times, plus}
+use Rattle.word.specs.Integers.{signed}
+use Rattle.word.specs.Laws.Integers.{signedBy, times, plus}
 use Rattle.word.specs.Laws.Magnitude.{magnitude-le, magnitude-positive, signed-size, signed-again, size-of}
 use Rattle.word.specs.declared.Outcome.{Outcome}
 use Rattle.word.specs.declared.Outcome.the-variants.{Double, DivisorZero}
