@@ -1,7 +1,6 @@
--- Made by .ci/named from branch_offset.rules: 6a8dbde888645a5f 3ac5cbe7cc06da58
+-- Made by .ci/named from branch_offset.rules: 501400abdd067a8d 53de9977ac788060
 -- The offset is below 2^14, so its sign bit adds at most 2^32 - 2^14.
 use mathlib.Core.Path.{ap}
-use native.Mathlib.Omega.{arith}
 use Rattle.machine.specs.Fetch.{extended}
 use borrow.Author.Needs.{needs}
 use Rattle.run.proofs.memory.branch_offset.Statement.{statement}
