@@ -5,6 +5,8 @@ use Rattle.plain.specs.Answer.{Answer, refuses, gives}
 use Rattle.links.specs.declared.Frame.{Frame}
 use Rattle.links.specs.declared.Level.{Level}
 use Rattle.machine.specs.declared.Machine.{Machine}
+use Rattle.machine.specs.declared.Steps.{Steps}
+use Rattle.machine.specs.declared.Cycles.{Cycles}
 use Rattle.run.specs.Machines.{linksOf}
 use Rattle.run.specs.declared.Registers.{Registers}
 
@@ -34,9 +36,9 @@ movedTo g p r s e counter flag =
       unspent = g .unspent;
     }
 
--- one more step, and its cycles
-abbrev pub countedTo : Registers → ℕ → Registers
-countedTo g price =
+-- what is left, the cycles, the answer and what was not spent anew
+abbrev pub talliedTo : Registers → Steps → Cycles → ℕ → Steps → Registers
+talliedTo g left cycles answer unspent =
     record {
       p = g .p;
       r = g .r;
@@ -44,27 +46,19 @@ countedTo g price =
       e = g .e;
       counter = g .counter;
       flag = g .flag;
-      left = record { 0 = g .left .0 - 1 };
-      cycles = record { 0 = g .cycles .0 + price };
-      answer = g .answer;
-      unspent = g .unspent;
+      left = left;
+      cycles = cycles;
+      answer = answer;
+      unspent = unspent;
     }
+
+-- one more step, and its cycles
+abbrev pub countedTo : Registers → ℕ → Registers
+countedTo g price = talliedTo g (record { 0 = g .left .0 - 1 }) (record { 0 = g .cycles .0 + price }) (g .answer) (g .unspent)
 
 -- the run is over: nothing is left to spend, and what was not spent is kept
 abbrev pub haltedAt : Registers → ℕ → Registers
-haltedAt g answer =
-    record {
-      p = g .p;
-      r = g .r;
-      s = g .s;
-      e = g .e;
-      counter = g .counter;
-      flag = g .flag;
-      left = record { 0 = 0 };
-      cycles = g .cycles;
-      answer = answer;
-      unspent = g .left;
-    }
+haltedAt g answer = talliedTo g (record { 0 = 0 }) (g .cycles) answer (g .left)
 
 -- an answer that refuses ends the run with its number
 abbrev pub haltedBy : {A : Type 0} → Answer A → Registers → Registers

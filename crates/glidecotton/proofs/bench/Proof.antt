@@ -1,3 +1,4 @@
+-- Made by .ci/named from bench.rules: 4c5c0aa2991c3a69 0c57b52c955e4088
 -- Each way out hands what the called functions ensure to its law.
 use Rattle.glidecotton.proofs.Steps.{no-text, refusal-text, run-text}
 use borrow.Author.Needs.{needs}
@@ -14,10 +15,7 @@ same-length : tie.Need-same-length
 same-length c = search needs
 
 returns : tie.Need-returns
-returns c =
-    let start = c .before .before .before .before .before .before .before .before .before .before .before in
-    no-text (start .args .image .now) (start .args .memory .now) (start .args .out .now) _ _ (c .before .before .before .before .before .before .read .ensures)
-    _ (c .before .before .verdict .given .1) (c .if1 .taken)
+returns c = no-text (c .before .before .before .before .before .before .before .before .before .before .before .args .image .now) (c .before .before .before .before .before .before .before .before .before .before .before .args .memory .now) (c .before .before .before .before .before .before .before .before .before .before .before .args .out .now) _ _ (c .before .before .before .before .before .before .read .ensures) _ (c .before .before .verdict .given .1) (c .if1 .taken)
 
 refusal-requires : tie.Need-refusal-requires
 refusal-requires c κs = search needs
@@ -29,10 +27,7 @@ same-length-3 : tie.Need-same-length-3
 same-length-3 c = search needs
 
 returns-2 : tie.Need-returns-2
-returns-2 c =
-    let start = c .before .before .before .before .before .before .before .before .before .before .before .before .before .before .before in
-    refusal-text (start .args .image .now) (start .args .memory .now) (start .args .out .now) _ _ (c .before .before .before .before .before .before .before .before .before .before .read .ensures)
-    _ _ (c .before .before .before .before .before .before .verdict .given .1) (c .before .before .before .before .if1 .left) (c .before .before .refusal .ensures)
+returns-2 c = refusal-text (c .before .before .before .before .before .before .before .before .before .before .before .before .before .before .before .args .image .now) (c .before .before .before .before .before .before .before .before .before .before .before .before .before .before .before .args .memory .now) (c .before .before .before .before .before .before .before .before .before .before .before .before .before .before .before .args .out .now) _ _ (c .before .before .before .before .before .before .before .before .before .before .read .ensures) _ _ (c .before .before .before .before .before .before .verdict .given .1) (c .before .before .before .before .if1 .left) (c .before .before .refusal .ensures)
 
 enum-told : tie.Need-enum-told
 enum-told c = search needs
@@ -50,10 +45,7 @@ same-length-5 : tie.Need-same-length-5
 same-length-5 c = search needs
 
 returns-3 : tie.Need-returns-3
-returns-3 c =
-    let start = c .before .before .before .before .before .before .before .before .before .before .before .before .before .before .before .before .before .before in
-    run-text (start .args .image .now) (start .args .memory .now) (start .args .out .now) _ _ (c .before .before .before .before .before .before .before .before .before .before .before .before .before .read .ensures)
-    _ _ (c .before .before .before .before .before .before .before .before .before .enum-told .given .1) (c .before .before .before .before .before .before .run .ensures) (c .before .before .report .ensures)
+returns-3 c = run-text (c .before .before .before .before .before .before .before .before .before .before .before .before .before .before .before .before .before .before .args .image .now) (c .before .before .before .before .before .before .before .before .before .before .before .before .before .before .before .before .before .before .args .memory .now) (c .before .before .before .before .before .before .before .before .before .before .before .before .before .before .before .before .before .before .args .out .now) _ _ (c .before .before .before .before .before .before .before .before .before .before .before .before .before .read .ensures) _ _ (c .before .before .before .before .before .before .before .before .before .enum-told .given .1) (c .before .before .before .before .before .before .run .ensures) (c .before .before .report .ensures)
 
 pub bench-spec : {M : Type 1} → statement M
 bench-spec =

@@ -1,3 +1,4 @@
+-- Made by .ci/named from glidecotton_bench.rules: bdde7128b55fd7cd 11793f732548ef33
 -- The bench's own promise, its answer as a number.
 use borrow.Author.Needs.{needs}
 use Rattle.glidecotton.proofs.glidecotton_bench.Statement.{statement}
@@ -16,15 +17,14 @@ same-length-2 : tie.Need-same-length-2
 same-length-2 c = search needs
 
 returns : tie.Need-returns
-returns c =
-    let benched = c .before .before .before .before .before .bench in
-    let number = c .number .ensures in
-    record {
-      done = _;
-      benched = benched .ensures;
-      same = λ i. record { number = number i; memory = benched .last .1 .0; out = benched .last .1 .1 .0 };
-    }
+returns c = let number = c .number .ensures in record { done = _; benched = c .before .before .before .before .before .bench .ensures; same = λ i. record { number = number i; memory = c .before .before .before .before .before .bench .last .1 .0; out = c .before .before .before .before .before .bench .last .1 .1 .0 } }
 
 pub glidecotton-bench-spec : {M : Type 1} → statement M
 glidecotton-bench-spec =
-    tie.close (tie.spec bench-requires number-requires same-length same-length-2 returns)
+    tie.close
+    (tie.spec
+    bench-requires
+    number-requires
+    same-length
+    same-length-2
+    returns)

@@ -1,9 +1,10 @@
+-- Made by .ci/named from number.rules: 52805f70e4e10078 0576b9f837c3d29d
 -- Each case has the number that its answer says.
 use mathlib.Core.Path.{_≡_, sym, ap, _∙_}
-use borrow.Author.Needs.{needs}
 use Rattle.report.specs.Printing.{saysPrinted}
 use Rattle.report.specs.declared.Printed.{Printed}
 use Rattle.glidecotton.specs.Host.{numberOf}
+use borrow.Author.Needs.{needs}
 use Rattle.glidecotton.proofs.number.Statement.{statement}
 use Rattle.glidecotton.proofs.number.Tie as tie
 
@@ -20,9 +21,14 @@ returns : tie.Need-returns
 returns c = sym (ap (λ (p : Printed). numberOf (saysPrinted p)) (c .before .printed .given .1))
 
 returns-2 : tie.Need-returns-2
-returns-2 c =
-    let same : c .wide .result ≡ c .before .before .printed2 .given .0 .0 = c .wide .ensures in
-    same ∙ sym (ap (λ (p : Printed). numberOf (saysPrinted p)) (c .before .before .printed2 .given .1))
+returns-2 c = let same : c .wide .result ≡ c .before .before .printed2 .given .0 .0 = c .wide .ensures in same ∙ sym (ap (λ (p : Printed). numberOf (saysPrinted p)) (c .before .before .printed2 .given .1))
 
 pub number-spec : {M : Type 1} → statement M
-number-spec = tie.close (tie.spec enum-known-printed enum-known-printed-2 wide-requires returns returns-2)
+number-spec =
+    tie.close
+    (tie.spec
+    enum-known-printed
+    enum-known-printed-2
+    wide-requires
+    returns
+    returns-2)

@@ -1,3 +1,4 @@
+-- Made by .ci/named from glidecotton_run_state.rules: 8f673ffea2330f8f 3b6e96035af3476b
 -- Each way out hands what the called functions ensure to its law.
 use mathlib.Core.Path.{ap, _∙_}
 use Rattle.machine.specs.Run.{runOf}
@@ -8,9 +9,7 @@ use Rattle.host.proofs.glidecotton_run_state.Statement.{statement}
 use Rattle.host.proofs.glidecotton_run_state.Tie as tie
 
 returns : tie.Need-returns
-returns c =
-    let a = c .before .before .before .before .args in
-    other-result (a .state .now) (a .memory .now) (a .budget) (a .result .now) (c .if1 .taken)
+returns c = other-result (c .before .before .before .before .args .state .now) (c .before .before .before .before .args .memory .now) (c .before .before .before .before .args .budget) (c .before .before .before .before .args .result .now) (c .if1 .taken)
 
 take-requires : tie.Need-take-requires
 take-requires c κs = search needs
@@ -25,9 +24,7 @@ same-length : tie.Need-same-length
 same-length c = search needs
 
 returns-2 : tie.Need-returns-2
-returns-2 c =
-    let a = c .before .before .before .before .before .before .before .before .args in
-    other-state (a .state .now) (a .memory .now) (a .budget) (a .result .now) _ _ _ (c .before .before .take .ensures) (ap saysVerdict (c .enum-told2 .given .1))
+returns-2 c = other-state (c .before .before .before .before .before .before .before .before .args .state .now) (c .before .before .before .before .before .before .before .before .args .memory .now) (c .before .before .before .before .before .before .before .before .args .budget) (c .before .before .before .before .before .before .before .before .args .result .now) _ _ _ (c .before .before .take .ensures) (ap saysVerdict (c .enum-told2 .given .1))
 
 narrowed-requires : tie.Need-narrowed-requires
 narrowed-requires c κs = search needs
@@ -51,18 +48,7 @@ same-length-4 : tie.Need-same-length-4
 same-length-4 c = search needs
 
 returns-3 : tie.Need-returns-3
-returns-3 c =
-    let counts = c .before .before in
-    let gave = counts .before .before .before .before in
-    let ran = gave .before .before .before .before .before .before .before in
-    let narrow = ran .before in
-    let told = narrow .before .before .before in
-    let took = told .before .before in
-    let measured = took .before .before in
-    let a = measured .before .before .before .before .args in
-    handed-back (a .state .now) (a .memory .now) (a .budget) (a .result .now) _ _ _ _ _ _ _
-    (took .take .ensures) (ap saysVerdict (told .enum-told .given .1)) (measured .if1 .left)
-    (ran .run .ensures ∙ ap (runOf (a .memory .now) _) (narrow .narrowed .ensures)) (gave .give .ensures) (counts .give-counts .ensures)
+returns-3 c = handed-back (c .before .before .before .before .before .before .before .before .before .before .before .before .before .before .before .before .before .before .before .before .before .before .before .before .before .args .state .now) (c .before .before .before .before .before .before .before .before .before .before .before .before .before .before .before .before .before .before .before .before .before .before .before .before .before .args .memory .now) (c .before .before .before .before .before .before .before .before .before .before .before .before .before .before .before .before .before .before .before .before .before .before .before .before .before .args .budget) (c .before .before .before .before .before .before .before .before .before .before .before .before .before .before .before .before .before .before .before .before .before .before .before .before .before .args .result .now) _ _ _ _ _ _ _ (c .before .before .before .before .before .before .before .before .before .before .before .before .before .before .before .before .before .before .before .take .ensures) (ap saysVerdict (c .before .before .before .before .before .before .before .before .before .before .before .before .before .before .before .before .before .enum-told .given .1)) (c .before .before .before .before .before .before .before .before .before .before .before .before .before .before .before .before .before .before .before .before .before .if1 .left) (c .before .before .before .before .before .before .before .before .before .before .before .before .before .run .ensures ∙ ap (runOf (c .before .before .before .before .before .before .before .before .before .before .before .before .before .before .before .before .before .before .before .before .before .before .before .before .before .args .memory .now) _) (c .before .before .before .before .before .before .before .before .before .before .before .before .before .before .narrowed .ensures)) (c .before .before .before .before .before .before .give .ensures) (c .before .before .give-counts .ensures)
 
 pub glidecotton-run-state-spec : {M : Type 1} → statement M
 glidecotton-run-state-spec =

@@ -1,8 +1,7 @@
+-- Made by .ci/named from read.rules: dd2f70c65230be40 9bd299e6128360e5
 -- The file is judged first: a bad one spells no image, a good one spells the image that is then placed.
-use mathlib.Core.Path.{_≡_, sym, ap, _∙_}
+use mathlib.Core.Path.{sym, ap, _∙_}
 use native.Mathlib.Omega.{arith}
-use lib.ListN.{length}
-use Rattle.machine.specs.Limits.{memoryLength}
 use Rattle.image.specs.Judging.{saysJudged}
 use Rattle.image.specs.Laws.Sound.{good-file}
 use Rattle.image.proofs.Answers.{good-answer, memory-refused, file-refused}
@@ -14,10 +13,7 @@ refused-requires : tie.Need-refused-requires
 refused-requires c κs = search needs
 
 returns : tie.Need-returns
-returns c =
-    let start = c .before .before .before .before in
-    let other : length (start .args .memory .now) ≡ memoryLength → ⊥ = omega arith in
-    memory-refused (start .args .file .now) (start .args .memory .now) _ other (c .refused .ensures)
+returns c = memory-refused (c .before .before .before .before .args .file .now) (c .before .before .before .before .args .memory .now) _ (omega arith) (c .refused .ensures)
 
 judge-requires : tie.Need-judge-requires
 judge-requires c κs = search needs
@@ -32,27 +28,16 @@ refused-requires-2 : tie.Need-refused-requires-2
 refused-requires-2 c κs = search needs
 
 returns-2 : tie.Need-returns-2
-returns-2 c =
-    let start = c .before .before .before .before .before .before .before in
-    let long : length (start .args .memory .now) ≡ memoryLength = omega arith in
-    file-refused (start .args .file .now) (start .args .memory .now) _ _ _ long (c .before .before .before .judge .ensures .clause) (c .before .enum-told .given .1) (c .refused2 .ensures)
+returns-2 c = file-refused (c .before .before .before .before .before .before .before .args .file .now) (c .before .before .before .before .before .before .before .args .memory .now) _ _ _ (omega arith) (c .before .before .before .judge .ensures .clause) (c .before .enum-told .given .1) (c .refused2 .ensures)
 
 image-requires : tie.Need-image-requires
-image-requires c κs =
-    let start = c .before .before .before .before .before .before .before .before in
-    let long : length (start .args .memory .now) ≡ memoryLength = omega arith in
-    (good-file (start .args .file .now) _ (sym (c .before .before .before .before .judge .ensures .clause) ∙ ap saysJudged (c .before .before .spans .given .1)), long)
+image-requires c κs = (good-file (c .before .before .before .before .before .before .before .before .args .file .now) _ (sym (c .before .before .before .before .judge .ensures .clause) ∙ ap saysJudged (c .before .before .spans .given .1)), omega arith)
 
 same-length : tie.Need-same-length
 same-length c = search needs
 
 returns-3 : tie.Need-returns-3
-returns-3 c =
-    let start = c .before .before .before .before .before .before .before .before .before .before .before in
-    let long : length (start .args .memory .now) ≡ memoryLength = omega arith in
-    let known = c .before .before .before .before .before .before .before .before .before .before .shared-slice-known in
-    good-answer (start .args .file .now) (start .args .memory .now) _ _ _ (λ i. known .given i .fits) long (sym (c .before .before .before .before .before .before .before .judge .ensures .clause) ∙ ap saysJudged (c .before .before .before .before .before .spans .given .1))
-    (c .before .before .image .ensures .0) (c .before .before .image .ensures .1)
+returns-3 c = good-answer (c .before .before .before .before .before .before .before .before .before .before .before .args .file .now) (c .before .before .before .before .before .before .before .before .before .before .before .args .memory .now) _ _ _ (λ i. c .before .before .before .before .before .before .before .before .before .before .shared-slice-known .given i .fits) (omega arith) (sym (c .before .before .before .before .before .before .before .judge .ensures .clause) ∙ ap saysJudged (c .before .before .before .before .before .spans .given .1)) (c .before .before .image .ensures .0) (c .before .before .image .ensures .1)
 
 pub read-spec : {M : Type 1} → statement M
 read-spec =

@@ -1,3 +1,4 @@
+-- Made by .ci/named from refused.rules: 4cccfaced578edee c7462ad397a62e89
 -- A refusal hands back a fresh machine and no budget.
 use Rattle.image.specs.Loading.{refusedWith}
 use borrow.Author.Needs.{needs}
@@ -12,4 +13,8 @@ unfolding refusedWith
 returns c = cc
 
 pub refused-spec : {M : Type 1} → statement M
-refused-spec = tie.close (tie.spec fresh-requires returns)
+refused-spec =
+    tie.close
+    (tie.spec
+    fresh-requires
+    returns)

@@ -1,3 +1,4 @@
+-- Made by .ci/named from glidecotton_read_image.rules: 5a6168ab4a344b22 9404f9ca11cb4746
 -- Each way out hands what the called functions ensure to its law.
 use Rattle.reader.proofs.HandingOut.{other-state, other-result, not-read, handed-out}
 use borrow.Author.Needs.{needs}
@@ -5,14 +6,10 @@ use Rattle.reader.proofs.glidecotton_read_image.Statement.{statement}
 use Rattle.reader.proofs.glidecotton_read_image.Tie as tie
 
 returns : tie.Need-returns
-returns c =
-    let a = c .before .before .before .before .before .args in
-    other-state (a .image .now) (a .memory .now) (a .state .now) (a .result .now) (c .if1 .taken)
+returns c = other-state (c .before .before .before .before .before .args .image .now) (c .before .before .before .before .before .args .memory .now) (c .before .before .before .before .before .args .state .now) (c .before .before .before .before .before .args .result .now) (c .if1 .taken)
 
 returns-2 : tie.Need-returns-2
-returns-2 c =
-    let a = c .before .before .before .before .before .before .args in
-    other-result (a .image .now) (a .memory .now) (a .state .now) (a .result .now) (c .if2 .taken)
+returns-2 c = other-result (c .before .before .before .before .before .before .args .image .now) (c .before .before .before .before .before .before .args .memory .now) (c .before .before .before .before .before .before .args .state .now) (c .before .before .before .before .before .before .args .result .now) (c .if2 .taken)
 
 read-requires : tie.Need-read-requires
 read-requires c κs = search needs
@@ -27,13 +24,7 @@ same-length : tie.Need-same-length
 same-length c = search needs
 
 returns-3 : tie.Need-returns-3
-returns-3 c =
-    let told = c .before in
-    let took = told .before .before .before .before in
-    let measured = took .before .before in
-    let a = measured .before .before .before .before .before .before .args in
-    not-read (a .image .now) (a .memory .now) (a .state .now) (a .result .now) _ _ (measured .before .if1 .left) (measured .if2 .left)
-    (took .read .ensures) _ (told .verdict .given .1)
+returns-3 c = not-read (c .before .before .before .before .before .before .before .before .before .before .before .before .before .args .image .now) (c .before .before .before .before .before .before .before .before .before .before .before .before .before .args .memory .now) (c .before .before .before .before .before .before .before .before .before .before .before .before .before .args .state .now) (c .before .before .before .before .before .before .before .before .before .before .before .before .before .args .result .now) _ _ (c .before .before .before .before .before .before .before .before .if1 .left) (c .before .before .before .before .before .before .before .if2 .left) (c .before .before .before .before .before .read .ensures) _ (c .before .verdict .given .1)
 
 enum-told : tie.Need-enum-told
 enum-told c = search needs
@@ -57,15 +48,7 @@ same-length-4 : tie.Need-same-length-4
 same-length-4 c = search needs
 
 returns-4 : tie.Need-returns-4
-returns-4 c =
-    let wrote = c .before .before in
-    let gave = wrote .before .before .before .before .before in
-    let told = gave .before .before .before in
-    let took = told .before .before .before .before in
-    let measured = took .before .before in
-    let a = measured .before .before .before .before .before .before .args in
-    handed-out (a .image .now) (a .memory .now) (a .state .now) (a .result .now) _ _ (measured .before .if1 .left) (measured .if2 .left)
-    (took .read .ensures) _ _ _ (told .enum-told .given .1) (gave .give .ensures) (wrote .write-eight .ensures)
+returns-4 c = handed-out (c .before .before .before .before .before .before .before .before .before .before .before .before .before .before .before .before .before .before .before .before .before .before .args .image .now) (c .before .before .before .before .before .before .before .before .before .before .before .before .before .before .before .before .before .before .before .before .before .before .args .memory .now) (c .before .before .before .before .before .before .before .before .before .before .before .before .before .before .before .before .before .before .before .before .before .before .args .state .now) (c .before .before .before .before .before .before .before .before .before .before .before .before .before .before .before .before .before .before .before .before .before .before .args .result .now) _ _ (c .before .before .before .before .before .before .before .before .before .before .before .before .before .before .before .before .before .if1 .left) (c .before .before .before .before .before .before .before .before .before .before .before .before .before .before .before .before .if2 .left) (c .before .before .before .before .before .before .before .before .before .before .before .before .before .before .read .ensures) _ _ _ (c .before .before .before .before .before .before .before .before .before .before .enum-told .given .1) (c .before .before .before .before .before .before .before .give .ensures) (c .before .before .write-eight .ensures)
 
 pub glidecotton-read-image-spec : {M : Type 1} → statement M
 glidecotton-read-image-spec =

@@ -1,3 +1,4 @@
+-- Made by .ci/named from print.rules: 694557b353ccfadf 65bcc8f507f1bd61
 -- The buffer has room for the text, which is copied, or stays as it was.
 use Rattle.report.proofs.Printing.{counted, has-room, too-long, printed-text}
 use borrow.Author.Needs.{needs}
@@ -20,4 +21,11 @@ returns-2 : tie.Need-returns-2
 returns-2 c = search (needs, printed-text)
 
 pub print-spec : {M : Type 1} → statement M
-print-spec = tie.close (tie.spec returns slice-aggregate-copy copy-requires same-length returns-2)
+print-spec =
+    tie.close
+    (tie.spec
+    returns
+    slice-aggregate-copy
+    copy-requires
+    same-length
+    returns-2)

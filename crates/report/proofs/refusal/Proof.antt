@@ -1,3 +1,4 @@
+-- Made by .ci/named from refusal.rules: 9443ac37c3ff745e 4fe1126712c91d0f
 -- The field that was put is the whole text.
 use Rattle.report.proofs.Printing.{refusal-printed}
 use borrow.Author.Needs.{needs}

@@ -1,3 +1,4 @@
+-- Made by .ci/named from report.rules: 16c7558dbd0517e4 70ef96c005b821c6
 -- The line and the cells that were put are the text of the run.
 use Rattle.report.proofs.Printing.{too-many, run-printed}
 use borrow.Author.Needs.{needs}

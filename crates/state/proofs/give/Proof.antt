@@ -1,12 +1,10 @@
+-- Made by .ci/named from give.rules: 33e1a92d1859cdf0 d433626a4c5f991c
 -- Each field is put where the one before it ends, and together they fill the buffer.
-use mathlib.Core.Path.{_≡_}
-use native.Mathlib.Omega.{arith}
-use borrow.Author.Needs.{needs}
-use lib.ListN.{length}
 use Rattle.links.specs.Depths.{cellsDepth}
 use Rattle.state.specs.Layout.{stateFields, state}
 use Rattle.state.specs.Promise.{wrong-size}
 use Rattle.state.proofs.Putting.{put-counted, none, _then_, _first_, fields-put, put-whole}
+use borrow.Author.Needs.{needs}
 use Rattle.state.proofs.give.Statement.{statement}
 use Rattle.state.proofs.give.Tie as tie
 
@@ -17,9 +15,7 @@ slice-aggregate-put-array : tie.Need-slice-aggregate-put-array
 slice-aggregate-put-array c = search needs
 
 put-array-requires : tie.Need-put-array-requires
-put-array-requires c κs =
-    let long : cellsDepth ≡ length (c .before .before .before .before .before .before .args .machine .cells) = slice-aggregate-put-array c in
-    omega arith
+put-array-requires c κs = search (needs, (slice-aggregate-put-array c))
 
 put-pointer-requires : tie.Need-put-pointer-requires
 put-pointer-requires c κs = search needs
@@ -37,22 +33,7 @@ same-length : tie.Need-same-length
 same-length c = search needs
 
 returns-2 : tie.Need-returns-2
-returns-2 c =
-    let flag = c .before .before in
-    let counter = flag .before .before .before .before in
-    let links = counter .before .before .before .before in
-    let p = links .before .before .before .before in
-    let cells = p .before .before .before .before in
-    let measured = cells .before .before .before .before .before in
-    let a = measured .before .before .args in
-    put-whole state (a .machine) (a .state .now) _ (measured .if1 .left)
-    (fields-put stateFields (a .machine) (a .state .now) 0 _
-    (put-counted cellsDepth (a .machine .cells) (slice-aggregate-put-array (cells .before)) (cells .put-array .ensures)
-    first p .put-pointer .ensures
-    then links .put-links .ensures
-    then counter .put-cell .ensures
-    then flag .put-cell2 .ensures
-    then none))
+returns-2 c = put-whole state (c .before .before .before .before .before .before .before .before .before .before .before .before .before .before .before .before .before .before .before .before .before .before .before .before .before .args .machine) (c .before .before .before .before .before .before .before .before .before .before .before .before .before .before .before .before .before .before .before .before .before .before .before .before .before .args .state .now) _ (c .before .before .before .before .before .before .before .before .before .before .before .before .before .before .before .before .before .before .before .before .before .before .before .if1 .left) (fields-put stateFields (c .before .before .before .before .before .before .before .before .before .before .before .before .before .before .before .before .before .before .before .before .before .before .before .before .before .args .machine) (c .before .before .before .before .before .before .before .before .before .before .before .before .before .before .before .before .before .before .before .before .before .before .before .before .before .args .state .now) 0 _ (put-counted cellsDepth ((c .before .before .before .before .before .before .before .before .before .before .before .before .before .before .before .before .before .before .before .before .before .before .before .before .before .args .machine) .cells) (slice-aggregate-put-array (c .before .before .before .before .before .before .before .before .before .before .before .before .before .before .before .before .before .before .before)) (c .before .before .before .before .before .before .before .before .before .before .before .before .before .before .before .before .before .before .put-array .ensures) first c .before .before .before .before .before .before .before .before .before .before .before .before .before .before .put-pointer .ensures then c .before .before .before .before .before .before .before .before .before .before .put-links .ensures then c .before .before .before .before .before .before .put-cell .ensures then c .before .before .put-cell2 .ensures then none))
 
 pub give-spec : {M : Type 1} → statement M
 give-spec =

@@ -1,8 +1,9 @@
--- The three numbers fill the buffer.
-use borrow.Author.Needs.{needs}
+-- Made by .ci/named from give_counts.rules: 6aeba08772e4a89d 3e5955ca02bed59f
+-- The numbers fill the buffer.
 use Rattle.state.specs.Layout.{resultFields, result}
 use Rattle.state.specs.Promise.{wrong-size}
 use Rattle.state.proofs.Putting.{none, _then_, _first_, fields-put, put-whole}
+use borrow.Author.Needs.{needs}
 use Rattle.state.proofs.give_counts.Statement.{statement}
 use Rattle.state.proofs.give_counts.Tie as tie
 
@@ -28,15 +29,7 @@ same-length : tie.Need-same-length
 same-length c = search needs
 
 returns-2 : tie.Need-returns-2
-returns-2 c =
-    let cycles = c .before .before in
-    let steps = cycles .before .before .before .before .before in
-    let answer = steps .before .before .before .before .before in
-    let measured = answer .before .before in
-    let before = measured .before .before .args .result .now in
-    put-whole result _ before _ (measured .if1 .left)
-    (fields-put resultFields _ before 0 _
-    (answer .put-pointer .ensures first steps .put-pointer2 .ensures then cycles .put-pointer3 .ensures then none))
+returns-2 c = put-whole result _ (c .before .before .before .before .before .before .before .before .before .before .before .before .before .before .before .before .args .result .now) _ (c .before .before .before .before .before .before .before .before .before .before .before .before .before .before .if1 .left) (fields-put resultFields _ (c .before .before .before .before .before .before .before .before .before .before .before .before .before .before .before .before .args .result .now) 0 _ (c .before .before .before .before .before .before .before .before .before .before .before .before .put-pointer .ensures first c .before .before .before .before .before .before .before .put-pointer2 .ensures then c .before .before .put-pointer3 .ensures then none))
 
 pub give-counts-spec : {M : Type 1} → statement M
 give-counts-spec =

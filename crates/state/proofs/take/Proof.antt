@@ -1,7 +1,7 @@
+-- Made by .ci/named from take.rules: 05e6d371ce435be2 b633146872b34e05
 -- Another length is refused; else the fields that stand one after the other are the whole state.
 use mathlib.Core.Path.{_≡_, sym, subst, _∙_}
 use native.Mathlib.Omega.{arith}
-use borrow.Author.Needs.{needs}
 use lib.ListN.{length}
 use lib.Seq.{take-all}
 use Rattle.plain.specs.Answer.{refuses}
@@ -9,6 +9,7 @@ use Rattle.state.specs.Layout.{stateFields, state}
 use Rattle.state.specs.Promise.{Takes, wrong-length, spelled}
 use Rattle.state.specs.Laws.Sound.{_and_}
 use Rattle.state.proofs.Standing.{fields-stand}
+use borrow.Author.Needs.{needs}
 use Rattle.state.proofs.take.Statement.{statement}
 use Rattle.state.proofs.take.Tie as tie
 
@@ -37,16 +38,7 @@ cell-at-requires-2 : tie.Need-cell-at-requires-2
 cell-at-requires-2 c κs = search needs
 
 returns-2 : tie.Need-returns-2
-returns-2 c =
-    let counter = c .before in
-    let links = counter .before in
-    let p = links .before in
-    let cells = p .before .before in
-    let left = cells .before .before in
-    let bytes = left .before .before .args .state .now in
-    let long : length bytes ≡ state .width = left .if1 .left in
-    let all = fields-stand stateFields bytes 0 _ (cells .fill .ensures and p .pointer-at .ensures and links .links-at .ensures and counter .cell-at .ensures and c .cell-at2 .ensures and tt) in
-    spelled _ long (all .fit) (all .spelled ∙ take-all (state .width) bytes (omega arith))
+returns-2 c = let all = fields-stand stateFields (c .before .before .before .before .before .before .before .before .before .args .state .now) 0 _ (c .before .before .before .before .before .fill .ensures and c .before .before .before .pointer-at .ensures and c .before .before .links-at .ensures and c .before .cell-at .ensures and c .cell-at2 .ensures and tt) in let long : length (c .before .before .before .before .before .before .before .before .before .args .state .now) ≡ state .width = c .before .before .before .before .before .before .before .if1 .left in spelled _ long (all .fit) (all .spelled ∙ take-all (state .width) (c .before .before .before .before .before .before .before .before .before .args .state .now) (omega arith))
 
 pub take-spec : {M : Type 1} → statement M
 take-spec =

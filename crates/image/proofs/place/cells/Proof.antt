@@ -1,13 +1,14 @@
+-- Made by .ci/named from cells.rules: ec3e9423a7526a10 e77b9cfe4ad57b29
 -- Before pass i the array is the first i cells and zeros above them.
 use mathlib.Core.Path.{_≡_, refl, ap, _∙_}
 use Prim.Native.Nat.{ℕ, _≤_, _-_}
 use native.Mathlib.Omega.{arith}
-use borrow.Author.Needs.{needs}
 use Rattle.links.specs.Depths.{cellsDepth}
 use Rattle.numbers.specs.Lists.{listAt}
 use Rattle.plain.specs.Zeros.{padded}
 use Rattle.image.specs.Format.{cellWidth}
 use Rattle.image.proofs.Placing.{value-placed}
+use borrow.Author.Needs.{needs}
 use Rattle.image.proofs.place.cells.Statement.{statement}
 use Rattle.image.proofs.place.cells.Tie as tie
 
@@ -43,13 +44,7 @@ loop-less : tie.Need-loop-less Inv-loop μ-loop
 loop-less c = search needs
 
 loop-again : tie.Need-loop-again Inv-loop μ-loop
-loop-again c =
-    let start = c .before .before .before .before in
-    let here = c .before .before .loop in (
-      omega arith,
-      value-placed cellWidth cellsDepth (start .args .file .now) (here .cells) (start .args .span .from) (here .i) (c .cell-at .result) (omega arith) (c .cell-at .ensures)
-          (here .inv .1),
-    )
+loop-again c = (omega arith, value-placed cellWidth cellsDepth (c .before .before .before .before .args .file .now) (c .before .before .loop .cells) (c .before .before .before .before .args .span .from) (c .before .before .loop .i) (c .cell-at .result) (omega arith) (c .cell-at .ensures) (c .before .before .loop .inv .1))
 
 returns : tie.Need-returns Inv-loop μ-loop
 returns c = c .before .loop .inv .1 ∙ ap (λ (n : ℕ). padded cellsDepth (listAt cellWidth n (c .before .before .before .args .file .now) (c .before .before .before .args .span .from))) (omega arith)
@@ -57,9 +52,7 @@ returns c = c .before .loop .inv .1 ∙ ap (λ (n : ℕ). padded cellsDepth (lis
 pub cells-spec : {M : Type 1} → statement M
 cells-spec =
     tie.close
-    (tie.spec
-    Inv-loop
-    μ-loop
+    (tie.spec Inv-loop μ-loop
     loop-holds
     mul-cell-at
     add-cell-at

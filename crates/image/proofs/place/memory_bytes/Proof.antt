@@ -1,3 +1,4 @@
+-- Made by .ci/named from memory_bytes.rules: 3e5f37362c679fff 3a318defa043a31d
 -- The first loop copies the bytes in front of the old memory, the second writes zeros over the rest of it.
 use mathlib.Core.List.{List, _++_}
 use mathlib.Core.Path.{_≡_, refl, sym, ap, _∙_}
@@ -7,9 +8,9 @@ use native.Mathlib.Numerals.{add-one}
 use native.Mathlib.Omega.{arith}
 use lib.ListN.{length, take, drop, getD, set, replicate, length-set, length-drop, take-append-drop}
 use lib.Seq.{getD-drop, paste, paste-zero, paste-suc}
-use borrow.Author.Needs.{needs}
 use Rattle.plain.specs.Zeros.{padded}
 use Rattle.image.proofs.Placing.{cleared, filled, bytes-read}
+use borrow.Author.Needs.{needs}
 use Rattle.image.proofs.place.memory_bytes.Statement.{statement}
 use Rattle.image.proofs.place.memory_bytes.Tie as tie
 
@@ -46,34 +47,10 @@ loop-less : tie.Need-loop-less Inv-loop μ-loop Inv-loop2 μ-loop2
 loop-less c = search needs
 
 loop-again : tie.Need-loop-again Inv-loop μ-loop Inv-loop2 μ-loop2
-loop-again c =
-    let start = c .before .before .before in
-    let here = c .before .before .loop in
-    let file = start .args .file .now in
-    let from = start .args .span .from in
-    let before = start .args .memory .now in
-    let byte = getD file (from + here .i) 0 in
-    let long : length (drop from file) ≡ length file - from = length-drop from file in
-    let at : here .i ≡ 0 + here .i = omega arith in (
-      omega arith,
-      ap (λ (l : List ℕ). set l (here .i) byte) (here .inv .1)
-          ∙ ap (λ (v : ℕ). set (paste before 0 (drop from file) (here .i)) (here .i) v) (sym (getD-drop from file (here .i) 0))
-          ∙ ap (λ (k : ℕ). set (paste before 0 (drop from file) (here .i)) k (getD (drop from file) (here .i) 0)) at
-          ∙ paste-suc before 0 (drop from file) (here .i) 0 (omega arith) (omega arith)
-          ∙ ap (paste before 0 (drop from file)) (sym (add-one (here .i))),
-      length-set (here .memory) (here .i) byte ∙ here .inv .2,
-    )
+loop-again c = let long : length (drop (c .before .before .before .args .span .from) (c .before .before .before .args .file .now)) ≡ length (c .before .before .before .args .file .now) - (c .before .before .before .args .span .from) = length-drop (c .before .before .before .args .span .from) (c .before .before .before .args .file .now) in let at : (c .before .before .loop .i) ≡ 0 + (c .before .before .loop .i) = omega arith in (omega arith, ap (λ (l : List ℕ). set l (c .before .before .loop .i) (getD (c .before .before .before .args .file .now) ((c .before .before .before .args .span .from) + (c .before .before .loop .i)) 0)) (c .before .before .loop .inv .1) ∙ ap (λ (v : ℕ). set (paste (c .before .before .before .args .memory .now) 0 (drop (c .before .before .before .args .span .from) (c .before .before .before .args .file .now)) (c .before .before .loop .i)) (c .before .before .loop .i) v) (sym (getD-drop (c .before .before .before .args .span .from) (c .before .before .before .args .file .now) (c .before .before .loop .i) 0)) ∙ ap (λ (k : ℕ). set (paste (c .before .before .before .args .memory .now) 0 (drop (c .before .before .before .args .span .from) (c .before .before .before .args .file .now)) (c .before .before .loop .i)) k (getD (drop (c .before .before .before .args .span .from) (c .before .before .before .args .file .now)) (c .before .before .loop .i) 0)) at ∙ paste-suc (c .before .before .before .args .memory .now) 0 (drop (c .before .before .before .args .span .from) (c .before .before .before .args .file .now)) (c .before .before .loop .i) 0 (omega arith) (omega arith) ∙ ap (paste (c .before .before .before .args .memory .now) 0 (drop (c .before .before .before .args .span .from) (c .before .before .before .args .file .now))) (sym (add-one (c .before .before .loop .i))), length-set (c .before .before .loop .memory) (c .before .before .loop .i) (getD (c .before .before .before .args .file .now) ((c .before .before .before .args .span .from) + (c .before .before .loop .i)) 0) ∙ c .before .before .loop .inv .2)
 
 loop2-holds : tie.Need-loop2-holds Inv-loop μ-loop Inv-loop2 μ-loop2
-loop2-holds c =
-    let m = c .before .loop .memory in
-    let i = c .before .loop .i in
-    let none : i - i ≡ 0 = omega arith in (
-      omega arith,
-      omega arith,
-      sym (take-append-drop i m) ∙ ap (λ (k : ℕ). take i m ++ (replicate k 0 ++ drop i m)) (sym none),
-      refl,
-    )
+loop2-holds c = let none : (c .before .loop .i) - (c .before .loop .i) ≡ 0 = omega arith in (omega arith, omega arith, sym (take-append-drop (c .before .loop .i) (c .before .loop .memory)) ∙ ap (λ (k : ℕ). take (c .before .loop .i) (c .before .loop .memory) ++ (replicate k 0 ++ drop (c .before .loop .i) (c .before .loop .memory))) (sym none), refl)
 
 slice-write-memory-2 : tie.Need-slice-write-memory-2 Inv-loop μ-loop Inv-loop2 μ-loop2
 slice-write-memory-2 c = search needs
@@ -85,41 +62,18 @@ loop2-less : tie.Need-loop2-less Inv-loop μ-loop Inv-loop2 μ-loop2
 loop2-less c = search needs
 
 loop2-again : tie.Need-loop2-again Inv-loop μ-loop Inv-loop2 μ-loop2
-loop2-again c =
-    let m = c .before .before .before .loop .memory in
-    let a = c .before .before .before .loop .i in
-    let here = c .before .loop2 in (
-      omega arith,
-      omega arith,
-      cleared m (here .memory) a (here .i) (here .inv .0) (omega arith) (here .inv .2),
-      length-set (here .memory) (here .i) 0 ∙ here .inv .3,
-    )
+loop2-again c = (omega arith, omega arith, cleared (c .before .before .before .loop .memory) (c .before .loop2 .memory) (c .before .before .before .loop .i) (c .before .loop2 .i) (c .before .loop2 .inv .0) (omega arith) (c .before .loop2 .inv .2), length-set (c .before .loop2 .memory) (c .before .loop2 .i) 0 ∙ c .before .loop2 .inv .3)
 
 same-length : tie.Need-same-length Inv-loop μ-loop Inv-loop2 μ-loop2
 same-length c = c .before .loop2 .inv .3 ∙ c .before .before .before .loop .inv .2
 
 returns : tie.Need-returns Inv-loop μ-loop Inv-loop2 μ-loop2
-returns c =
-    let start = c .before .before .before .before in
-    let one = c .before .before .before .loop in
-    let two = c .before .loop2 in
-    let file = start .args .file .now in
-    let from = start .args .span .from in
-    let count = start .args .span .count in
-    let long : length (drop from file) ≡ length file - from = length-drop from file in
-    let copied = one .inv .1 ∙ ap (λ (k : ℕ). take (one .i) (drop from file) ++ drop k (start .args .memory .now)) (zero-add (one .i)) in
-    filled (drop from file) (start .args .memory .now) (one .memory) (two .memory) count (one .i) (two .i)
-    (omega arith) (omega arith) (omega arith) copied (one .inv .2) (omega arith) (two .inv .2)
-    ∙ ap (padded (length (start .args .memory .now))) (sym (bytes-read file from count (omega arith)))
+returns c = let long : length (drop (c .before .before .before .before .args .span .from) (c .before .before .before .before .args .file .now)) ≡ length (c .before .before .before .before .args .file .now) - (c .before .before .before .before .args .span .from) = length-drop (c .before .before .before .before .args .span .from) (c .before .before .before .before .args .file .now) in let copied = c .before .before .before .loop .inv .1 ∙ ap (λ (k : ℕ). take (c .before .before .before .loop .i) (drop (c .before .before .before .before .args .span .from) (c .before .before .before .before .args .file .now)) ++ drop k (c .before .before .before .before .args .memory .now)) (zero-add (c .before .before .before .loop .i)) in filled (drop (c .before .before .before .before .args .span .from) (c .before .before .before .before .args .file .now)) (c .before .before .before .before .args .memory .now) (c .before .before .before .loop .memory) (c .before .loop2 .memory) (c .before .before .before .before .args .span .count) (c .before .before .before .loop .i) (c .before .loop2 .i) (omega arith) (omega arith) (omega arith) copied (c .before .before .before .loop .inv .2) (omega arith) (c .before .loop2 .inv .2) ∙ ap (padded (length (c .before .before .before .before .args .memory .now))) (sym (bytes-read (c .before .before .before .before .args .file .now) (c .before .before .before .before .args .span .from) (c .before .before .before .before .args .span .count) (omega arith)))
 
 pub memory-bytes-spec : {M : Type 1} → statement M
 memory-bytes-spec =
     tie.close
-    (tie.spec
-    Inv-loop
-    μ-loop
-    Inv-loop2
-    μ-loop2
+    (tie.spec Inv-loop μ-loop Inv-loop2 μ-loop2
     loop-holds
     add-memory
     shared-slice-read-memory

@@ -1,3 +1,4 @@
+-- Made by .ci/named from budget_in.rules: b5d4ec846818ba6a 025ad82559558c9a
 -- No cell is the default, one cell is the budget.
 use mathlib.Core.Path.{sym, ap, _∙_}
 use Prim.Native.Nat.{ℕ}
@@ -19,4 +20,9 @@ returns-2 : tie.Need-returns-2
 returns-2 c = c .cell-at .ensures ∙ sym (first-budget _ _ _ (c .before .if1 .left))
 
 pub budget-in-spec : {M : Type 1} → statement M
-budget-in-spec = tie.close (tie.spec returns cell-at-requires returns-2)
+budget-in-spec =
+    tie.close
+    (tie.spec
+    returns
+    cell-at-requires
+    returns-2)

@@ -1,3 +1,4 @@
+-- Made by .ci/named from cell_at.rules: b08bad973925759c ce18ca9e13660328
 -- The place is inside, so that a number is found there.
 use native.Mathlib.Omega.{arith}
 use Rattle.image.specs.Format.{cellWidth}
@@ -16,15 +17,17 @@ enum-told : tie.Need-enum-told
 enum-told c = search needs
 
 returns : tie.Need-returns
-returns c =
-    let start = c .before .before .before .before in
-    let out = was-outside cellWidth (start .args .file .now) (start .args .at) (c .before .before .read-four .result) (c .before .before .read-four .ensures) (c .enum-told .given .1) in
-    absurd (omega arith)
+returns c = let out = was-outside cellWidth (c .before .before .before .before .args .file .now) (c .before .before .before .before .args .at) (c .before .before .read-four .result) (c .before .before .read-four .ensures) (c .enum-told .given .1) in absurd (omega arith)
 
 returns-2 : tie.Need-returns-2
-returns-2 c =
-    let start = c .before .before .before .before .before in
-    was-inside cellWidth (start .args .file .now) (start .args .at) (c .before .before .before .read-four .result) (c .before .before .before .read-four .ensures) _ (c .before .cell .given .1) .1
+returns-2 c = was-inside cellWidth (c .before .before .before .before .before .args .file .now) (c .before .before .before .before .before .args .at) (c .before .before .before .read-four .result) (c .before .before .before .read-four .ensures) _ (c .before .cell .given .1) .1
 
 pub cell-at-spec : {M : Type 1} → statement M
-cell-at-spec = tie.close (tie.spec read-four-requires enum-known-cell enum-told returns returns-2)
+cell-at-spec =
+    tie.close
+    (tie.spec
+    read-four-requires
+    enum-known-cell
+    enum-told
+    returns
+    returns-2)

@@ -1,3 +1,4 @@
+-- Made by .ci/named from limits_of.rules: 6b771546636d2c71 ae17aecbb048ff19
 -- A line for each section.
 use mathlib.Core.Path.{sym, ap}
 use Rattle.image.specs.Format.{limits}
@@ -24,4 +25,12 @@ returns-3 : tie.Need-returns-3
 returns-3 c = sym (ap limits (c .enum-told3 .given .1))
 
 pub limits-of-spec : {M : Type 1} → statement M
-limits-of-spec = tie.close (tie.spec enum-told enum-told-2 enum-told-3 returns returns-2 returns-3)
+limits-of-spec =
+    tie.close
+    (tie.spec
+    enum-told
+    enum-told-2
+    enum-told-3
+    returns
+    returns-2
+    returns-3)

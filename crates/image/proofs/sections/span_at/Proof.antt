@@ -1,3 +1,4 @@
+-- Made by .ci/named from span_at.rules: 23b0816635253b03 97b2048967c2aa5a
 -- Each way out is a law of how the judgement of a section ends.
 use native.Mathlib.Omega.{arith}
 use Rattle.image.specs.Format.{countWidth}
@@ -26,37 +27,25 @@ limits-of-requires : tie.Need-limits-of-requires
 limits-of-requires c κs = search needs
 
 returns-2 : tie.Need-returns-2
-returns-2 c =
-    too-few _ _ _ _ (c .before .before .before .before .before .before .read-four .ensures) _ (c .before .before .before .before .number .given .1) _ (c .before .before .limits-of .ensures) (c .if1 .taken)
+returns-2 c = too-few _ _ _ _ (c .before .before .before .before .before .before .read-four .ensures) _ (c .before .before .before .before .number .given .1) _ (c .before .before .limits-of .ensures) (c .if1 .taken)
 
 returns-3 : tie.Need-returns-3
-returns-3 c =
-    too-many _ _ _ _ (c .before .before .before .before .before .before .before .before .read-four .ensures) _ (c .before .before .before .before .before .before .number .given .1) _ (c .before .before .before .before .limits-of .ensures)
-    (c .before .before .if1 .left) (c .if2 .taken)
+returns-3 c = too-many _ _ _ _ (c .before .before .before .before .before .before .before .before .read-four .ensures) _ (c .before .before .before .before .before .before .number .given .1) _ (c .before .before .before .before .limits-of .ensures) (c .before .before .if1 .left) (c .if2 .taken)
 
 add-from : tie.Need-add-from
 add-from c = omega (arith, was-inside countWidth _ _ _ (c .before .before .before .before .before .before .before .before .read-four .ensures) _ (c .before .before .before .before .before .before .number .given .1) .0)
 
 mul-to : tie.Need-mul-to
-mul-to c =
-    let small = small-product (c .before .before .before .before .before .before .before .before .before .before .before .args .section) _ _ (c .before .before .before .before .before .limits-of .ensures) (c .before .if2 .left) in
-    omega arith
+mul-to c = let small = small-product (c .before .before .before .before .before .before .before .before .before .before .before .args .section) _ _ (c .before .before .before .before .before .limits-of .ensures) (c .before .if2 .left) in omega arith
 
 add-to : tie.Need-add-to
-add-to c =
-    let small = small-product (c .before .before .before .before .before .before .before .before .before .before .before .args .section) _ _ (c .before .before .before .before .before .limits-of .ensures) (c .before .if2 .left) in
-    let there = was-inside countWidth _ _ _ (c .before .before .before .before .before .before .before .before .before .read-four .ensures) _ (c .before .before .before .before .before .before .before .number .given .1) .0 in
-    omega arith
+add-to c = let small = small-product (c .before .before .before .before .before .before .before .before .before .before .before .args .section) _ _ (c .before .before .before .before .before .limits-of .ensures) (c .before .if2 .left) in let there = was-inside countWidth _ _ _ (c .before .before .before .before .before .before .before .before .before .read-four .ensures) _ (c .before .before .before .before .before .before .before .number .given .1) .0 in omega arith
 
 returns-4 : tie.Need-returns-4
-returns-4 c =
-    cut-elements _ _ _ _ (c .before .before .before .before .before .before .before .before .before .before .read-four .ensures) _ (c .before .before .before .before .before .before .before .before .number .given .1) _ (c .before .before .before .before .before .before .limits-of .ensures)
-    (c .before .before .before .before .if1 .left) (c .before .before .if2 .left) (c .if3 .taken)
+returns-4 c = cut-elements _ _ _ _ (c .before .before .before .before .before .before .before .before .before .before .read-four .ensures) _ (c .before .before .before .before .before .before .before .before .number .given .1) _ (c .before .before .before .before .before .before .limits-of .ensures) (c .before .before .before .before .if1 .left) (c .before .before .if2 .left) (c .if3 .taken)
 
 returns-5 : tie.Need-returns-5
-returns-5 c =
-    whole _ _ _ _ (c .before .before .before .before .before .before .before .before .before .before .read-four .ensures) _ (c .before .before .before .before .before .before .before .before .number .given .1) _ (c .before .before .before .before .before .before .limits-of .ensures)
-    (c .before .before .before .before .if1 .left) (c .before .before .if2 .left) (c .if3 .left)
+returns-5 c = whole _ _ _ _ (c .before .before .before .before .before .before .before .before .before .before .read-four .ensures) _ (c .before .before .before .before .before .before .before .before .number .given .1) _ (c .before .before .before .before .before .before .limits-of .ensures) (c .before .before .before .before .if1 .left) (c .before .before .if2 .left) (c .if3 .left)
 
 pub span-at-spec : {M : Type 1} → statement M
 span-at-spec =

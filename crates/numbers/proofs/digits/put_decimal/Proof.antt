@@ -1,6 +1,7 @@
+-- Made by .ci/named from put_decimal.rules: 8b548ea7f4528f50 41a5f680d46ee660
 -- The digits put and those of what is left make up all.
-use borrow.Author.Needs.{needs}
 use Rattle.numbers.proofs.Filling.{Decimal, decimal-starts, decimal-goes, decimal-ends}
+use borrow.Author.Needs.{needs}
 use Rattle.numbers.proofs.digits.put_decimal.Statement.{statement}
 use Rattle.numbers.proofs.digits.put_decimal.Tie as tie
 
@@ -52,9 +53,7 @@ returns c = search (needs, decimal-ends)
 pub put-decimal-spec : {M : Type 1} → statement M
 put-decimal-spec =
     tie.close
-    (tie.spec
-    Inv-loop
-    μ-loop
+    (tie.spec Inv-loop μ-loop
     add-end
     loop-holds
     sub-end

@@ -1,6 +1,7 @@
+-- Made by .ci/named from put_hexadecimal.rules: 286749ac4dc16a5f a0f96edbd5a4ce41
 -- The digits put and those that are left make up all.
-use borrow.Author.Needs.{needs}
 use Rattle.numbers.proofs.Filling.{Hexadecimal, hexadecimal-starts, hexadecimal-goes, hexadecimal-ends}
+use borrow.Author.Needs.{needs}
 use Rattle.numbers.proofs.digits.put_hexadecimal.Statement.{statement}
 use Rattle.numbers.proofs.digits.put_hexadecimal.Tie as tie
 
@@ -43,9 +44,7 @@ returns c = search (needs, hexadecimal-ends)
 pub put-hexadecimal-spec : {M : Type 1} → statement M
 put-hexadecimal-spec =
     tie.close
-    (tie.spec
-    Inv-loop
-    μ-loop
+    (tie.spec Inv-loop μ-loop
     loop-holds
     sub-left
     cast-digit-of

@@ -1,3 +1,4 @@
+-- Made by .ci/named from write_decimal.rules: 3c813ec0334e11d0 3bd745e5606c5147
 -- Where there is room the digits are put, else nothing is touched.
 use Rattle.numbers.proofs.Answering.{put, not-put}
 use borrow.Author.Needs.{needs}

@@ -1,3 +1,4 @@
+-- Made by .ci/named from write_hexadecimal.rules: f2959ba48beb11ee e129aa605d049294
 -- Where there is room the digits are put, else nothing is touched.
 use Rattle.numbers.proofs.Answering.{put-digits, too-many-digits, digits-too-far}
 use borrow.Author.Needs.{needs}
@@ -28,4 +29,11 @@ returns-3 c = search (needs, put-digits)
 pub write-hexadecimal-spec : {M : Type 1} → statement M
 write-hexadecimal-spec =
     tie.close
-    (tie.spec returns sub-if2 returns-2 put-hexadecimal-requires add-t5 same-length returns-3)
+    (tie.spec
+    returns
+    sub-if2
+    returns-2
+    put-hexadecimal-requires
+    add-t5
+    same-length
+    returns-3)

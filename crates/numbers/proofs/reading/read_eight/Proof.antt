@@ -1,3 +1,4 @@
+-- Made by .ci/named from read_eight.rules: e8e166f1f9ebe7d9 6c901e73d572cac4
 -- Inside the slice its number is read, else nothing.
 use Rattle.numbers.proofs.Answering.{found, not-found}
 use borrow.Author.Needs.{needs}
@@ -17,4 +18,10 @@ returns-2 : tie.Need-returns-2
 returns-2 c = search (needs, not-found)
 
 pub read-eight-spec : {M : Type 1} → statement M
-read-eight-spec = tie.close (tie.spec within-requires eight-at-requires returns returns-2)
+read-eight-spec =
+    tie.close
+    (tie.spec
+    within-requires
+    eight-at-requires
+    returns
+    returns-2)

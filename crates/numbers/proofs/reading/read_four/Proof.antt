@@ -1,3 +1,4 @@
+-- Made by .ci/named from read_four.rules: e8e166f1f9ebe7d9 2f8a87e52871b4e3
 -- Inside the slice its number is read, else nothing.
 use Rattle.numbers.proofs.Answering.{found, not-found}
 use borrow.Author.Needs.{needs}
@@ -17,4 +18,10 @@ returns-2 : tie.Need-returns-2
 returns-2 c = search (needs, not-found)
 
 pub read-four-spec : {M : Type 1} → statement M
-read-four-spec = tie.close (tie.spec within-requires four-at-requires returns returns-2)
+read-four-spec =
+    tie.close
+    (tie.spec
+    within-requires
+    four-at-requires
+    returns
+    returns-2)

@@ -1,3 +1,4 @@
+-- Made by .ci/named from read_one.rules: e8e166f1f9ebe7d9 2fe23d47b48003db
 -- Inside the slice its number is read, else nothing.
 use Rattle.numbers.proofs.Answering.{found, not-found}
 use borrow.Author.Needs.{needs}
@@ -22,4 +23,9 @@ returns-2 c = search (needs, not-found)
 pub read-one-spec : {M : Type 1} → statement M
 read-one-spec =
     tie.close
-    (tie.spec within-requires shared-slice-read-one-byte one-byte-requires returns returns-2)
+    (tie.spec
+    within-requires
+    shared-slice-read-one-byte
+    one-byte-requires
+    returns
+    returns-2)

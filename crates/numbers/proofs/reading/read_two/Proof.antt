@@ -1,3 +1,4 @@
+-- Made by .ci/named from read_two.rules: e8e166f1f9ebe7d9 4395d878c788d65c
 -- Inside the slice its number is read, else nothing.
 use Rattle.numbers.proofs.Answering.{found, not-found}
 use borrow.Author.Needs.{needs}

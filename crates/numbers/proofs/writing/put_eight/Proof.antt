@@ -1,3 +1,4 @@
+-- Made by .ci/named from put_eight.rules: f629db76304f9b9c 81eaf4dea9fa97a9
 -- The high half, then the low half after it.
 use Rattle.numbers.proofs.Storing.{eight-stored}
 use borrow.Author.Needs.{needs}

@@ -1,3 +1,4 @@
+-- Made by .ci/named from put_four.rules: 90604a7b61de3daf ed9c3407250a01fb
 -- Four stores in a row.
 use native.Mathlib.Omega.{arith}
 use lib.ListN.{length-set}

@@ -1,3 +1,4 @@
+-- Made by .ci/named from put_one.rules: caa7963ce52c4620 2ac156f7f005191a
 -- One store.
 use Rattle.numbers.proofs.Storing.{one-stored}
 use borrow.Author.Needs.{needs}
@@ -17,4 +18,10 @@ returns : tie.Need-returns
 returns c = search (needs, one-stored)
 
 pub put-one-spec : {M : Type 1} → statement M
-put-one-spec = tie.close (tie.spec low-byte-requires slice-write-bytes same-length returns)
+put-one-spec =
+    tie.close
+    (tie.spec
+    low-byte-requires
+    slice-write-bytes
+    same-length
+    returns)

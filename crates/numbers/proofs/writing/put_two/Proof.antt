@@ -1,3 +1,4 @@
+-- Made by .ci/named from put_two.rules: ecb29714ca08927e 121bb46ed0e2076c
 -- Two stores in a row.
 use native.Mathlib.Omega.{arith}
 use lib.ListN.{length-set}

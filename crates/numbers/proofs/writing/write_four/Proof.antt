@@ -1,3 +1,4 @@
+-- Made by .ci/named from write_four.rules: 52c33b0d710e7296 bc3511a6bf1eb24a
 -- Inside the slice its bytes are put, else nothing is touched.
 use Rattle.numbers.proofs.Answering.{written, not-written}
 use borrow.Author.Needs.{needs}
@@ -21,4 +22,10 @@ returns-2 c = search (needs, not-written)
 
 pub write-four-spec : {M : Type 1} → statement M
 write-four-spec =
-    tie.close (tie.spec within-requires put-four-requires same-length returns returns-2)
+    tie.close
+    (tie.spec
+    within-requires
+    put-four-requires
+    same-length
+    returns
+    returns-2)

@@ -1,3 +1,4 @@
+-- Made by .ci/named from write_one.rules: 52c33b0d710e7296 5f66513b7dadccb6
 -- Inside the slice its bytes are put, else nothing is touched.
 use Rattle.numbers.proofs.Answering.{written, not-written}
 use borrow.Author.Needs.{needs}
@@ -21,4 +22,10 @@ returns-2 c = search (needs, not-written)
 
 pub write-one-spec : {M : Type 1} → statement M
 write-one-spec =
-    tie.close (tie.spec within-requires put-one-requires same-length returns returns-2)
+    tie.close
+    (tie.spec
+    within-requires
+    put-one-requires
+    same-length
+    returns
+    returns-2)

@@ -1,3 +1,4 @@
+-- Made by .ci/named from write_two.rules: 52c33b0d710e7296 3f26442515afaacb
 -- Inside the slice its bytes are put, else nothing is touched.
 use Rattle.numbers.proofs.Answering.{written, not-written}
 use borrow.Author.Needs.{needs}
@@ -21,4 +22,10 @@ returns-2 c = search (needs, not-written)
 
 pub write-two-spec : {M : Type 1} → statement M
 write-two-spec =
-    tie.close (tie.spec within-requires put-two-requires same-length returns returns-2)
+    tie.close
+    (tie.spec
+    within-requires
+    put-two-requires
+    same-length
+    returns
+    returns-2)

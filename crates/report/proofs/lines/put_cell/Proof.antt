@@ -1,8 +1,9 @@
+-- Made by .ci/named from put_cell.rules: a56bb0511166e917 3c625c84711bbff4
 -- There is room for the digits and one character more.
 use native.Mathlib.Omega.{arith}
-use borrow.Author.Needs.{needs}
 use Rattle.report.specs.Text.{cellLine}
 use Rattle.report.proofs.Ending.{of-a-cell, never, short, inside, ended}
+use borrow.Author.Needs.{needs}
 use Rattle.report.proofs.lines.put_cell.Statement.{statement}
 use Rattle.report.proofs.lines.put_cell.Tie as tie
 
@@ -25,10 +26,7 @@ slice-write-text : tie.Need-slice-write-text
 slice-write-text c = search (needs, inside of-a-cell, c .before .last .given .1)
 
 add-result : tie.Need-add-result
-add-result c =
-    let call = c .before .before .before .before .before .write-hexadecimal in
-    let start = c .before .before .before .before .before .before .before .before in
-    omega (arith, short of-a-cell (start .args .value) (start .args .text .now) (call .last .0) (start .args .at) (call .result) (call .ensures) (start .pre) _ (c .before .last .given .1))
+add-result c = omega (arith, short of-a-cell (c .before .before .before .before .before .before .before .before .args .value) (c .before .before .before .before .before .before .before .before .args .text .now) (c .before .before .before .before .before .write-hexadecimal .last .0) (c .before .before .before .before .before .before .before .before .args .at) (c .before .before .before .before .before .write-hexadecimal .result) (c .before .before .before .before .before .write-hexadecimal .ensures) (c .before .before .before .before .before .before .before .before .pre) _ (c .before .last .given .1))
 
 same-length-2 : tie.Need-same-length-2
 same-length-2 c = search needs

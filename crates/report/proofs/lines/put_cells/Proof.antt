@@ -1,10 +1,11 @@
+-- Made by .ci/named from put_cells.rules: 0ddf3537b116cd6e ec021402055805fb
 -- Before pass i the text has grown by the lines of the first i cells.
 use Prim.Native.Nat.{_-_}
 use native.Mathlib.Omega.{arith}
-use borrow.Author.Needs.{needs}
 use Rattle.report.specs.Text.{cellLine}
 use Rattle.report.specs.Sizes.{cellSize}
 use Rattle.report.proofs.Growing.{Grown, grown-none, grown-more, cells-short, cells-end}
+use borrow.Author.Needs.{needs}
 use Rattle.report.proofs.lines.put_cells.Statement.{statement}
 use Rattle.report.proofs.lines.put_cells.Tie as tie
 
@@ -44,9 +45,7 @@ returns c = search (needs, cells-short, cells-end)
 pub put-cells-spec : {M : Type 1} → statement M
 put-cells-spec =
     tie.close
-    (tie.spec
-    Inv-loop
-    μ-loop
+    (tie.spec Inv-loop μ-loop
     loop-holds
     mul-put-cell
     array-read-put-cell

@@ -1,8 +1,9 @@
+-- Made by .ci/named from put_field.rules: 0f8adc4bd64557ed a6a09eedc7dd7667
 -- There is room for the digits and one character more.
 use native.Mathlib.Omega.{arith}
-use borrow.Author.Needs.{needs}
 use Rattle.report.specs.Text.{field}
 use Rattle.report.proofs.Ending.{in-decimal, never, short, inside, ended}
+use borrow.Author.Needs.{needs}
 use Rattle.report.proofs.lines.put_field.Statement.{statement}
 use Rattle.report.proofs.lines.put_field.Tie as tie
 
@@ -25,10 +26,7 @@ slice-write-text : tie.Need-slice-write-text
 slice-write-text c = search (needs, inside in-decimal, c .before .last .given .1)
 
 add-result : tie.Need-add-result
-add-result c =
-    let call = c .before .before .before .before .before .write-decimal in
-    let start = c .before .before .before .before .before .before .before .before in
-    omega (arith, short in-decimal (start .args .value) (start .args .text .now) (call .last .0) (start .args .at) (call .result) (call .ensures) (start .pre) _ (c .before .last .given .1))
+add-result c = omega (arith, short in-decimal (c .before .before .before .before .before .before .before .before .args .value) (c .before .before .before .before .before .before .before .before .args .text .now) (c .before .before .before .before .before .write-decimal .last .0) (c .before .before .before .before .before .before .before .before .args .at) (c .before .before .before .before .before .write-decimal .result) (c .before .before .before .before .before .write-decimal .ensures) (c .before .before .before .before .before .before .before .before .pre) _ (c .before .last .given .1))
 
 same-length-2 : tie.Need-same-length-2
 same-length-2 c = search needs

@@ -1,11 +1,12 @@
+-- Made by .ci/named from put_line.rules: 5cd9bd4e8f13f601 202a9146622113fc
 -- Before pass i the text is the first i numbers, each with its space.
 use mathlib.Core.Path.{_≡_}
 use Prim.Native.Nat.{_-_}
 use native.Mathlib.Omega.{arith}
 use lib.ListN.{length}
-use borrow.Author.Needs.{needs}
 use Rattle.report.specs.Sizes.{fieldsCount, longestField}
 use Rattle.report.proofs.Growing.{Grown, grown-none, grown-more, spaced, line-short, line-ends}
+use borrow.Author.Needs.{needs}
 use Rattle.report.proofs.lines.put_line.Statement.{statement}
 use Rattle.report.proofs.lines.put_line.Tie as tie
 
@@ -51,9 +52,7 @@ returns c = search (needs, line-short, line-ends)
 pub put-line-spec : {M : Type 1} → statement M
 put-line-spec =
     tie.close
-    (tie.spec
-    Inv-loop
-    μ-loop
+    (tie.spec Inv-loop μ-loop
     loop-holds
     mul-put-field
     array-read-put-field

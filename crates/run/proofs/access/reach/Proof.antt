@@ -1,7 +1,6 @@
--- Made by .ci/named from reach.rules: 0b008486b278c6c3 447b2d86276bd7ba
+-- Made by .ci/named from reach.rules: 2d0e42f42c80e879 c4be175e9c8b4038
 -- Too few cells is test 5; else the place decides.
 use mathlib.Core.Path.{sym, _∙_}
-use native.Mathlib.Omega.{arith}
 use borrow.Author.Tests.{lt-ltb, le-ltb}
 use Rattle.run.specs.Accesses.{reachOf}
 use borrow.Author.Needs.{needs}

@@ -1,8 +1,8 @@
--- Made by .ci/named from rounds.rules: 11d56db98002d9b5 c9f885e1c6fcda7e
+-- Made by .ci/named from rounds.rules: d5b329403d36645d aabb955f817f5b21
 -- The loop is the definition's run: each round is one step of `stepOf`, and what ends it is the definition's own.
 use mathlib.Core.Path.{_≡_, refl, ap, sym, _∙_}
 use mathlib.Core.Logic.{inl, inr}
-use Prim.Native.Nat.{ℕ, _<_, _≤_}
+use Prim.Native.Nat.{ℕ, _<_}
 use native.Mathlib.Omega.{arith}
 use Rattle.links.specs.Actions.{noLocals}
 use Rattle.machine.specs.Codes.{table, cycleTable}

@@ -1,9 +1,10 @@
+-- Made by .ci/named from cell_at.rules: ce7f6f2dbabf9460 df2763b98b9bc7d2
 -- Four bytes that lie inside the state.
 use mathlib.Core.Path.{sym, ap, _∙_}
 use native.Mathlib.Omega.{arith}
-use borrow.Author.Needs.{needs}
 use Rattle.numbers.specs.Slices.{saysFound}
 use Rattle.state.proofs.Standing.{number-stands, never-outside}
+use borrow.Author.Needs.{needs}
 use Rattle.state.proofs.reading.cell_at.Statement.{statement}
 use Rattle.state.proofs.reading.cell_at.Tie as tie
 
@@ -17,16 +18,17 @@ enum-told : tie.Need-enum-told
 enum-told c = search needs
 
 returns : tie.Need-returns
-returns c =
-    let start = c .before .before .before .before in
-    absurd (never-outside 4 (start .args .state .now) (start .args .at) (start .pre) _ (ap saysFound (sym (c .enum-told .given .1)) ∙ c .before .before .read-four .ensures))
+returns c = absurd (never-outside 4 (c .before .before .before .before .args .state .now) (c .before .before .before .before .args .at) (c .before .before .before .before .pre) _ (ap saysFound (sym (c .enum-told .given .1)) ∙ c .before .before .read-four .ensures))
 
 returns-2 : tie.Need-returns-2
-returns-2 c =
-    let read = c .before .before .before in
-    let start = read .before .before in
-    number-stands 4 (start .args .state .now) (start .args .at) (start .pre) (λ i. omega (arith, read .before .shared-slice-known .given i)) _
-    (ap saysFound (sym (c .before .found .given .1)) ∙ read .read-four .ensures)
+returns-2 c = number-stands 4 (c .before .before .before .before .before .args .state .now) (c .before .before .before .before .before .args .at) (c .before .before .before .before .before .pre) (λ i. omega (arith, c .before .before .before .before .shared-slice-known .given i)) _ (ap saysFound (sym (c .before .found .given .1)) ∙ c .before .before .before .read-four .ensures)
 
 pub cell-at-spec : {M : Type 1} → statement M
-cell-at-spec = tie.close (tie.spec read-four-requires enum-known-found enum-told returns returns-2)
+cell-at-spec =
+    tie.close
+    (tie.spec
+    read-four-requires
+    enum-known-found
+    enum-told
+    returns
+    returns-2)

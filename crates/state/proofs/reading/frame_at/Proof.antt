@@ -1,4 +1,5 @@
--- The fields stand one after the other.
+-- Made by .ci/named from frame_at.rules: 4a4f5015bf072bce 35ff846cbbabb4ff
+-- The fields of a frame stand one after the other.
 use Rattle.state.specs.Layout.{frameFields}
 use Rattle.state.specs.Laws.Sound.{_and_}
 use Rattle.state.proofs.Standing.{fields-stand}
@@ -25,11 +26,7 @@ cell-at-requires : tie.Need-cell-at-requires
 cell-at-requires c κs = search needs
 
 returns : tie.Need-returns
-returns c =
-    let r = c .before in
-    let locals = r .before .before in
-    let a = locals .before .before .before .args in
-    fields-stand frameFields (a .state .now) (a .at) _ (locals .fill .ensures and r .pointer-at .ensures and c .cell-at .ensures and tt)
+returns c = fields-stand frameFields (c .before .before .before .before .before .before .args .state .now) (c .before .before .before .before .before .before .args .at) _ (c .before .before .before .fill .ensures and c .before .pointer-at .ensures and c .cell-at .ensures and tt)
 
 pub frame-at-spec : {M : Type 1} → statement M
 frame-at-spec =

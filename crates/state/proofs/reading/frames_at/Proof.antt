@@ -1,3 +1,4 @@
+-- Made by .ci/named from frames_at.rules: d5728d12fedd07f7 9484ad04a85ad45c
 -- Before pass i the first i frames stand in the state.
 use mathlib.Core.Path.{ap, _∙_}
 use Prim.Native.Nat.{_-_}
@@ -8,61 +9,53 @@ use Rattle.links.specs.declared.Links.{Links}
 use Rattle.links.specs.Laws.Fresh.{fresh-shaped}
 use Rattle.state.specs.Layout.{frame}
 use Rattle.state.proofs.Standing.{Filling, filling-none, filling-more, filling-all}
+use borrow.Author.Needs.{needs}
 use Rattle.state.proofs.reading.frames_at.Statement.{statement}
 use Rattle.state.proofs.reading.frames_at.Tie as tie
 
 abbrev Inv-loop : tie.InvT-loop
-Inv-loop state from frames₀ i₀ frames i = Filling frame state from framesCount frames i
+Inv-loop state from xs₀ i₀ xs i = Filling frame state from framesCount xs i
 
 abbrev μ-loop : tie.MeasureT-loop
-μ-loop state from frames₀ i₀ frames i = framesCount - i
+μ-loop state from xs₀ i₀ xs i = framesCount - i
 
 fresh-requires : tie.Need-fresh-requires Inv-loop μ-loop
-fresh-requires c κs = tt
+fresh-requires c κs = search needs
 
 loop-holds : tie.Need-loop-holds Inv-loop μ-loop
-loop-holds c =
-    let a = c .before .before .before .args in
-    let fresh = c .before .fresh in
-    filling-none frame (a .state .now) (a .from) framesCount (fresh .result .frames) (ap (λ (l : Links). length (l .frames)) (fresh .ensures) ∙ fresh-shaped .frames-long)
+loop-holds c = filling-none frame (c .before .before .before .args .state .now) (c .before .before .before .args .from) framesCount (c .before .fresh .result .frames) (ap (λ (l : Links). length (l .frames)) (c .before .fresh .ensures) ∙ fresh-shaped .frames-long)
 
 mul-frame-at : tie.Need-mul-frame-at Inv-loop μ-loop
-mul-frame-at c = omega arith
+mul-frame-at c = search needs
 
 add-frame-at : tie.Need-add-frame-at Inv-loop μ-loop
-add-frame-at c = omega arith
+add-frame-at c = search needs
 
 frame-at-requires : tie.Need-frame-at-requires Inv-loop μ-loop
-frame-at-requires c κs = omega arith
+frame-at-requires c κs = search needs
 
 mul-frames : tie.Need-mul-frames Inv-loop μ-loop
-mul-frames c = omega arith
+mul-frames c = search needs
 
 array-set-from-frames : tie.Need-array-set-from-frames Inv-loop μ-loop
-array-set-from-frames c = omega arith
+array-set-from-frames c = search needs
 
 add-i : tie.Need-add-i Inv-loop μ-loop
-add-i c = omega arith
+add-i c = search needs
 
 loop-less : tie.Need-loop-less Inv-loop μ-loop
-loop-less c = omega arith
+loop-less c = search needs
 
 loop-again : tie.Need-loop-again Inv-loop μ-loop
-loop-again c =
-    let a = c .before .before .before .before .before .before .args in
-    filling-more frame (a .state .now) (a .from) framesCount (c .before .before .loop .inv) (omega arith) (c .frame-at .result) (c .frame-at .ensures)
+loop-again c = filling-more frame (c .before .before .before .before .before .before .args .state .now) (c .before .before .before .before .before .before .args .from) framesCount (c .before .before .loop .inv) (omega arith) (c .frame-at .result) (c .frame-at .ensures)
 
 returns : tie.Need-returns Inv-loop μ-loop
-returns c =
-    let a = c .before .before .before .before .before .args in
-    filling-all frame (a .state .now) (a .from) framesCount (c .before .loop .inv) (omega arith)
+returns c = filling-all frame (c .before .before .before .before .before .args .state .now) (c .before .before .before .before .before .args .from) framesCount (c .before .loop .inv) (omega arith)
 
 pub frames-at-spec : {M : Type 1} → statement M
 frames-at-spec =
     tie.close
-    (tie.spec
-    Inv-loop
-    μ-loop
+    (tie.spec Inv-loop μ-loop
     fresh-requires
     loop-holds
     mul-frame-at

@@ -1,4 +1,5 @@
--- The fields stand one after the other.
+-- Made by .ci/named from level_at.rules: e7a170c595e857ef 484a29b7d35be84a
+-- The fields of an exception level stand one after the other.
 use Rattle.state.specs.Layout.{levelFields}
 use Rattle.state.specs.Laws.Sound.{_and_}
 use Rattle.state.proofs.Standing.{fields-stand}
@@ -31,12 +32,7 @@ cell-at-requires : tie.Need-cell-at-requires
 cell-at-requires c κs = search needs
 
 returns : tie.Need-returns
-returns c =
-    let p = c .before in
-    let s = p .before in
-    let cells = s .before .before in
-    let a = cells .before .before .before .args in
-    fields-stand levelFields (a .state .now) (a .at) _ (cells .fill .ensures and s .pointer-at .ensures and p .pointer-at2 .ensures and c .cell-at .ensures and tt)
+returns c = fields-stand levelFields (c .before .before .before .before .before .before .before .args .state .now) (c .before .before .before .before .before .before .before .args .at) _ (c .before .before .before .before .fill .ensures and c .before .before .pointer-at .ensures and c .before .pointer-at2 .ensures and c .cell-at .ensures and tt)
 
 pub level-at-spec : {M : Type 1} → statement M
 level-at-spec =

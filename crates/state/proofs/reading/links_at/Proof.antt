@@ -1,4 +1,5 @@
--- The fields stand one after the other.
+-- Made by .ci/named from links_at.rules: 427fdc8e8290cc39 bba6b9ccb164be7c
+-- The fields of the linked stacks stand one after the other.
 use Rattle.state.specs.Layout.{linksFields}
 use Rattle.state.specs.Laws.Sound.{_and_}
 use Rattle.state.proofs.Standing.{fields-stand}
@@ -43,21 +44,7 @@ pointer-at-requires-3 : tie.Need-pointer-at-requires-3
 pointer-at-requires-3 c κs = search needs
 
 returns : tie.Need-returns
-returns c =
-    let levels = c .before in
-    let s = levels .before in
-    let frames = s .before in
-    let r = frames .before in
-    let cells = r .before .before in
-    let a = cells .before .before .before .args in
-    fields-stand linksFields (a .state .now) (a .at) _
-    (cells .fill .ensures
-    and r .pointer-at .ensures
-    and frames .frames-at .ensures
-    and s .pointer-at2 .ensures
-    and levels .levels-at .ensures
-    and c .pointer-at3 .ensures
-    and tt)
+returns c = fields-stand linksFields (c .before .before .before .before .before .before .before .before .before .args .state .now) (c .before .before .before .before .before .before .before .before .before .args .at) _ (c .before .before .before .before .before .before .fill .ensures and c .before .before .before .before .pointer-at .ensures and c .before .before .before .frames-at .ensures and c .before .before .pointer-at2 .ensures and c .before .levels-at .ensures and c .pointer-at3 .ensures and tt)
 
 pub links-at-spec : {M : Type 1} → statement M
 links-at-spec =

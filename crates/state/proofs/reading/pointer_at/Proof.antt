@@ -1,9 +1,10 @@
+-- Made by .ci/named from pointer_at.rules: 36bce4e2904e43d1 93f8176f9b15ed74
 -- Eight bytes that lie inside the state.
 use mathlib.Core.Path.{sym, ap, _∙_}
 use native.Mathlib.Omega.{arith}
-use borrow.Author.Needs.{needs}
 use Rattle.numbers.specs.Slices.{saysFoundEight}
 use Rattle.state.proofs.Standing.{number-stands, never-outside}
+use borrow.Author.Needs.{needs}
 use Rattle.state.proofs.reading.pointer_at.Statement.{statement}
 use Rattle.state.proofs.reading.pointer_at.Tie as tie
 
@@ -17,16 +18,17 @@ enum-told : tie.Need-enum-told
 enum-told c = search needs
 
 returns : tie.Need-returns
-returns c =
-    let start = c .before .before .before .before in
-    absurd (never-outside 8 (start .args .state .now) (start .args .at) (start .pre) _ (ap saysFoundEight (sym (c .enum-told .given .1)) ∙ c .before .before .read-eight .ensures))
+returns c = absurd (never-outside 8 (c .before .before .before .before .args .state .now) (c .before .before .before .before .args .at) (c .before .before .before .before .pre) _ (ap saysFoundEight (sym (c .enum-told .given .1)) ∙ c .before .before .read-eight .ensures))
 
 returns-2 : tie.Need-returns-2
-returns-2 c =
-    let read = c .before .before .before in
-    let start = read .before .before in
-    number-stands 8 (start .args .state .now) (start .args .at) (start .pre) (λ i. omega (arith, read .before .shared-slice-known .given i)) _
-    (ap saysFoundEight (sym (c .before .found .given .1)) ∙ read .read-eight .ensures)
+returns-2 c = number-stands 8 (c .before .before .before .before .before .args .state .now) (c .before .before .before .before .before .args .at) (c .before .before .before .before .before .pre) (λ i. omega (arith, c .before .before .before .before .shared-slice-known .given i)) _ (ap saysFoundEight (sym (c .before .found .given .1)) ∙ c .before .before .before .read-eight .ensures)
 
 pub pointer-at-spec : {M : Type 1} → statement M
-pointer-at-spec = tie.close (tie.spec read-eight-requires enum-known-found enum-told returns returns-2)
+pointer-at-spec =
+    tie.close
+    (tie.spec
+    read-eight-requires
+    enum-known-found
+    enum-told
+    returns
+    returns-2)

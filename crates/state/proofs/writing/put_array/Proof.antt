@@ -1,3 +1,4 @@
+-- Made by .ci/named from put_array.rules: 422d39dee895f102 b7aca4078acb27a7
 -- Before pass i the first i cells have been put.
 use mathlib.Core.Path.{refl}
 use Prim.Native.Nat.{_-_}
@@ -5,6 +6,7 @@ use native.Mathlib.Omega.{arith}
 use lib.ListN.{length}
 use Rattle.state.specs.Layout.{cell}
 use Rattle.state.proofs.Putting.{Putting, putting-none, putting-more, putting-all}
+use borrow.Author.Needs.{needs}
 use Rattle.state.proofs.writing.put_array.Statement.{statement}
 use Rattle.state.proofs.writing.put_array.Tie as tie
 
@@ -15,52 +17,42 @@ abbrev μ-loop : tie.MeasureT-loop
 μ-loop state₀ from cells i₀ state i = length cells - i
 
 loop-holds : tie.Need-loop-holds Inv-loop μ-loop
-loop-holds c =
-    let a = c .before .before .args in
-    putting-none cell (a .state .now) (a .from) (length (a .cells .now)) (a .cells .now) refl
+loop-holds c = putting-none cell (c .before .before .args .state .now) (c .before .before .args .from) (length (c .before .before .args .cells .now)) (c .before .before .args .cells .now) refl
 
 mul-put-cell : tie.Need-mul-put-cell Inv-loop μ-loop
-mul-put-cell c = omega arith
+mul-put-cell c = search needs
 
 add-put-cell : tie.Need-add-put-cell Inv-loop μ-loop
-add-put-cell c = omega arith
+add-put-cell c = search needs
 
 mul-put-cell-2 : tie.Need-mul-put-cell-2 Inv-loop μ-loop
-mul-put-cell-2 c = omega arith
+mul-put-cell-2 c = search needs
 
 shared-slice-read-put-cell : tie.Need-shared-slice-read-put-cell Inv-loop μ-loop
-shared-slice-read-put-cell c = omega arith
+shared-slice-read-put-cell c = search needs
 
 put-cell-requires : tie.Need-put-cell-requires Inv-loop μ-loop
-put-cell-requires c κs = omega arith
+put-cell-requires c κs = search needs
 
 add-i : tie.Need-add-i Inv-loop μ-loop
-add-i c = omega arith
+add-i c = search needs
 
 loop-less : tie.Need-loop-less Inv-loop μ-loop
-loop-less c = omega arith
+loop-less c = search needs
 
 loop-again : tie.Need-loop-again Inv-loop μ-loop
-loop-again c =
-    let put = c .before .before in
-    let here = put .before .before .before .before in
-    let a = here .before .before .before .args in
-    putting-more cell (a .state .now) (a .from) (length (a .cells .now)) (a .cells .now) (here .loop .inv) (omega arith) 0 (put .put-cell .ensures)
+loop-again c = putting-more cell (c .before .before .before .before .before .before .before .before .before .args .state .now) (c .before .before .before .before .before .before .before .before .before .args .from) (length (c .before .before .before .before .before .before .before .before .before .args .cells .now)) (c .before .before .before .before .before .before .before .before .before .args .cells .now) (c .before .before .before .before .before .before .loop .inv) (omega arith) 0 (c .before .before .put-cell .ensures)
 
 same-length : tie.Need-same-length Inv-loop μ-loop
 same-length c = c .before .loop .inv .done .as-long
 
 returns : tie.Need-returns Inv-loop μ-loop
-returns c =
-    let a = c .before .before .before .before .args in
-    putting-all cell (a .state .now) (a .from) (length (a .cells .now)) (a .cells .now) (c .before .loop .inv) (omega arith)
+returns c = putting-all cell (c .before .before .before .before .args .state .now) (c .before .before .before .before .args .from) (length (c .before .before .before .before .args .cells .now)) (c .before .before .before .before .args .cells .now) (c .before .loop .inv) (omega arith)
 
 pub put-array-spec : {M : Type 1} → statement M
 put-array-spec =
     tie.close
-    (tie.spec
-    Inv-loop
-    μ-loop
+    (tie.spec Inv-loop μ-loop
     loop-holds
     mul-put-cell
     add-put-cell

@@ -1,6 +1,7 @@
+-- Made by .ci/named from put_cell.rules: e7eb662035bd838e ac25fed960e3be0f
 -- Four bytes written inside the state.
-use borrow.Author.Needs.{needs}
 use Rattle.state.proofs.Putting.{number-put}
+use borrow.Author.Needs.{needs}
 use Rattle.state.proofs.writing.put_cell.Statement.{statement}
 use Rattle.state.proofs.writing.put_cell.Tie as tie
 
@@ -11,11 +12,12 @@ same-length : tie.Need-same-length
 same-length c = search needs
 
 returns : tie.Need-returns
-returns c =
-    let write = c .before .before in
-    let start = write .before .before .before in
-    let a = start .args in
-    number-put 4 (a .value) (a .state .now) (a .at) _ (start .pre) (search needs) (write .write-four .ensures)
+returns c = number-put 4 (c .before .before .before .before .before .args .value) (c .before .before .before .before .before .args .state .now) (c .before .before .before .before .before .args .at) _ (c .before .before .before .before .before .pre) (search needs) (c .before .before .write-four .ensures)
 
 pub put-cell-spec : {M : Type 1} → statement M
-put-cell-spec = tie.close (tie.spec write-four-requires same-length returns)
+put-cell-spec =
+    tie.close
+    (tie.spec
+    write-four-requires
+    same-length
+    returns)

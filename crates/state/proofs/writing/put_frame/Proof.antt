@@ -1,11 +1,9 @@
--- Each field is put where the one before it ends.
-use mathlib.Core.Path.{_≡_}
-use native.Mathlib.Omega.{arith}
-use borrow.Author.Needs.{needs}
-use lib.ListN.{length}
+-- Made by .ci/named from put_frame.rules: 125fc02b08ec9719 4f39a786c530241e
+-- Each field of a frame is put where the one before it ends.
 use Rattle.links.specs.Depths.{localsCount}
 use Rattle.state.specs.Layout.{frameFields}
 use Rattle.state.proofs.Putting.{put-counted, none, _then_, _first_, fields-put}
+use borrow.Author.Needs.{needs}
 use Rattle.state.proofs.writing.put_frame.Statement.{statement}
 use Rattle.state.proofs.writing.put_frame.Tie as tie
 
@@ -13,9 +11,7 @@ slice-aggregate-put-array : tie.Need-slice-aggregate-put-array
 slice-aggregate-put-array c = search needs
 
 put-array-requires : tie.Need-put-array-requires
-put-array-requires c κs =
-    let long : localsCount ≡ length (c .before .before .before .before .args .frame .locals) = slice-aggregate-put-array c in
-    omega arith
+put-array-requires c κs = search (needs, (slice-aggregate-put-array c))
 
 add-put-pointer : tie.Need-add-put-pointer
 add-put-pointer c = search needs
@@ -33,16 +29,7 @@ same-length : tie.Need-same-length
 same-length c = search needs
 
 returns : tie.Need-returns
-returns c =
-    let address = c .before .before in
-    let r = address .before .before .before .before in
-    let locals = r .before .before .before .before in
-    let a = locals .before .before .before .before .before .args in
-    fields-put frameFields (a .frame) (a .state .now) (a .at) _
-    (put-counted localsCount (a .frame .locals) (slice-aggregate-put-array (locals .before)) (locals .put-array .ensures)
-    first r .put-pointer .ensures
-    then address .put-cell .ensures
-    then none)
+returns c = fields-put frameFields (c .before .before .before .before .before .before .before .before .before .before .before .before .before .before .before .args .frame) (c .before .before .before .before .before .before .before .before .before .before .before .before .before .before .before .args .state .now) (c .before .before .before .before .before .before .before .before .before .before .before .before .before .before .before .args .at) _ (put-counted localsCount (c .before .before .before .before .before .before .before .before .before .before .before .before .before .before .before .args .frame .locals) (slice-aggregate-put-array (c .before .before .before .before .before .before .before .before .before .before .before)) (c .before .before .before .before .before .before .before .before .before .before .put-array .ensures) first c .before .before .before .before .before .before .put-pointer .ensures then c .before .before .put-cell .ensures then none)
 
 pub put-frame-spec : {M : Type 1} → statement M
 put-frame-spec =

@@ -1,3 +1,4 @@
+-- Made by .ci/named from put_frames.rules: 92a3fef4e3c02291 ae11eddc96162fb3
 -- Before pass i the first i frames have been put.
 use Prim.Native.Nat.{_-_}
 use native.Mathlib.Omega.{arith}
@@ -5,62 +6,53 @@ use Rattle.links.specs.Depths.{framesCount}
 use Rattle.links.specs.Linked.{noFrame}
 use Rattle.state.specs.Layout.{frame}
 use Rattle.state.proofs.Putting.{Putting, putting-none, putting-more, putting-all}
+use borrow.Author.Needs.{needs}
 use Rattle.state.proofs.writing.put_frames.Statement.{statement}
 use Rattle.state.proofs.writing.put_frames.Tie as tie
 
 abbrev Inv-loop : tie.InvT-loop
-Inv-loop state₀ from frames i₀ state i = Putting frame state₀ from framesCount frames state i
+Inv-loop state₀ from xs i₀ state i = Putting frame state₀ from framesCount xs state i
 
 abbrev μ-loop : tie.MeasureT-loop
-μ-loop state₀ from frames i₀ state i = framesCount - i
+μ-loop state₀ from xs i₀ state i = framesCount - i
 
 loop-holds : tie.Need-loop-holds Inv-loop μ-loop
-loop-holds c =
-    let a = c .before .args in
-    putting-none frame (a .state .now) (a .from) framesCount (a .t3) (omega arith)
+loop-holds c = putting-none frame (c .before .args .state .now) (c .before .args .from) framesCount (c .before .args .t3) (omega arith)
 
 mul-frame : tie.Need-mul-frame Inv-loop μ-loop
-mul-frame c = omega arith
+mul-frame c = search needs
 
 array-copy-out-frame : tie.Need-array-copy-out-frame Inv-loop μ-loop
-array-copy-out-frame c = omega arith
+array-copy-out-frame c = search needs
 
 mul-put-frame : tie.Need-mul-put-frame Inv-loop μ-loop
-mul-put-frame c = omega arith
+mul-put-frame c = search needs
 
 add-put-frame : tie.Need-add-put-frame Inv-loop μ-loop
-add-put-frame c = omega arith
+add-put-frame c = search needs
 
 put-frame-requires : tie.Need-put-frame-requires Inv-loop μ-loop
-put-frame-requires c κs = omega arith
+put-frame-requires c κs = search needs
 
 add-i : tie.Need-add-i Inv-loop μ-loop
-add-i c = omega arith
+add-i c = search needs
 
 loop-less : tie.Need-loop-less Inv-loop μ-loop
-loop-less c = omega arith
+loop-less c = search needs
 
 loop-again : tie.Need-loop-again Inv-loop μ-loop
-loop-again c =
-    let put = c .before .before in
-    let here = put .before .before .before .before in
-    let a = here .before .before .args in
-    putting-more frame (a .state .now) (a .from) framesCount (a .t3) (here .loop .inv) (omega arith) noFrame (put .put-frame .ensures)
+loop-again c = putting-more frame (c .before .before .before .before .before .before .before .before .args .state .now) (c .before .before .before .before .before .before .before .before .args .from) framesCount (c .before .before .before .before .before .before .before .before .args .t3) (c .before .before .before .before .before .before .loop .inv) (omega arith) noFrame (c .before .before .put-frame .ensures)
 
 same-length : tie.Need-same-length Inv-loop μ-loop
 same-length c = c .before .loop .inv .done .as-long
 
 returns : tie.Need-returns Inv-loop μ-loop
-returns c =
-    let a = c .before .before .before .args in
-    putting-all frame (a .state .now) (a .from) framesCount (a .t3) (c .before .loop .inv) (omega arith)
+returns c = putting-all frame (c .before .before .before .args .state .now) (c .before .before .before .args .from) framesCount (c .before .before .before .args .t3) (c .before .loop .inv) (omega arith)
 
 pub put-frames-spec : {M : Type 1} → statement M
 put-frames-spec =
     tie.close
-    (tie.spec
-    Inv-loop
-    μ-loop
+    (tie.spec Inv-loop μ-loop
     loop-holds
     mul-frame
     array-copy-out-frame

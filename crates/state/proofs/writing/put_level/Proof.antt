@@ -1,11 +1,9 @@
--- Each field is put where the one before it ends.
-use mathlib.Core.Path.{_≡_}
-use native.Mathlib.Omega.{arith}
-use borrow.Author.Needs.{needs}
-use lib.ListN.{length}
+-- Made by .ci/named from put_level.rules: 4da39bd24040a741 55bbc8dd12520224
+-- Each field of an exception level is put where the one before it ends.
 use Rattle.links.specs.Depths.{levelCells}
 use Rattle.state.specs.Layout.{levelFields}
 use Rattle.state.proofs.Putting.{put-counted, none, _then_, _first_, fields-put}
+use borrow.Author.Needs.{needs}
 use Rattle.state.proofs.writing.put_level.Statement.{statement}
 use Rattle.state.proofs.writing.put_level.Tie as tie
 
@@ -13,9 +11,7 @@ slice-aggregate-put-array : tie.Need-slice-aggregate-put-array
 slice-aggregate-put-array c = search needs
 
 put-array-requires : tie.Need-put-array-requires
-put-array-requires c κs =
-    let long : levelCells ≡ length (c .before .before .before .before .args .level .cells) = slice-aggregate-put-array c in
-    omega arith
+put-array-requires c κs = search (needs, (slice-aggregate-put-array c))
 
 add-put-pointer : tie.Need-add-put-pointer
 add-put-pointer c = search needs
@@ -39,18 +35,7 @@ same-length : tie.Need-same-length
 same-length c = search needs
 
 returns : tie.Need-returns
-returns c =
-    let address = c .before .before in
-    let p = address .before .before .before .before in
-    let s = p .before .before .before .before in
-    let cells = s .before .before .before .before in
-    let a = cells .before .before .before .before .before .args in
-    fields-put levelFields (a .level) (a .state .now) (a .at) _
-    (put-counted levelCells (a .level .cells) (slice-aggregate-put-array (cells .before)) (cells .put-array .ensures)
-    first s .put-pointer .ensures
-    then p .put-pointer2 .ensures
-    then address .put-cell .ensures
-    then none)
+returns c = fields-put levelFields (c .before .before .before .before .before .before .before .before .before .before .before .before .before .before .before .before .before .before .before .args .level) (c .before .before .before .before .before .before .before .before .before .before .before .before .before .before .before .before .before .before .before .args .state .now) (c .before .before .before .before .before .before .before .before .before .before .before .before .before .before .before .before .before .before .before .args .at) _ (put-counted levelCells (c .before .before .before .before .before .before .before .before .before .before .before .before .before .before .before .before .before .before .before .args .level .cells) (slice-aggregate-put-array (c .before .before .before .before .before .before .before .before .before .before .before .before .before .before .before)) (c .before .before .before .before .before .before .before .before .before .before .before .before .before .before .put-array .ensures) first c .before .before .before .before .before .before .before .before .before .before .put-pointer .ensures then c .before .before .before .before .before .before .put-pointer2 .ensures then c .before .before .put-cell .ensures then none)
 
 pub put-level-spec : {M : Type 1} → statement M
 put-level-spec =

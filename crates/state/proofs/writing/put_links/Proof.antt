@@ -1,11 +1,9 @@
--- Each field is put where the one before it ends.
-use mathlib.Core.Path.{_≡_}
-use native.Mathlib.Omega.{arith}
-use borrow.Author.Needs.{needs}
-use lib.ListN.{length}
+-- Made by .ci/named from put_links.rules: 749e4b44a019f742 40435f3da0f4b420
+-- Each field of the linked stacks is put where the one before it ends.
 use Rattle.links.specs.Depths.{returnsDepth}
 use Rattle.state.specs.Layout.{linksFields}
 use Rattle.state.proofs.Putting.{put-counted, none, _then_, _first_, fields-put}
+use borrow.Author.Needs.{needs}
 use Rattle.state.proofs.writing.put_links.Statement.{statement}
 use Rattle.state.proofs.writing.put_links.Tie as tie
 
@@ -13,9 +11,7 @@ slice-aggregate-put-array : tie.Need-slice-aggregate-put-array
 slice-aggregate-put-array c = search needs
 
 put-array-requires : tie.Need-put-array-requires
-put-array-requires c κs =
-    let long : returnsDepth ≡ length (c .before .before .before .before .before .before .args .links .returns) = slice-aggregate-put-array c in
-    omega arith
+put-array-requires c κs = search (needs, (slice-aggregate-put-array c))
 
 add-put-pointer : tie.Need-add-put-pointer
 add-put-pointer c = search needs
@@ -51,22 +47,7 @@ same-length : tie.Need-same-length
 same-length c = search needs
 
 returns : tie.Need-returns
-returns c =
-    let e = c .before .before in
-    let levels = e .before .before .before .before in
-    let s = levels .before .before .before .before in
-    let frames = s .before .before .before .before in
-    let r = frames .before .before .before .before in
-    let returns = r .before .before .before .before in
-    let a = returns .before .before .before .before .before .before .before .args in
-    fields-put linksFields (a .links) (a .state .now) (a .at) _
-    (put-counted returnsDepth (a .links .returns) (slice-aggregate-put-array (returns .before)) (returns .put-array .ensures)
-    first r .put-pointer .ensures
-    then frames .put-frames .ensures
-    then s .put-pointer2 .ensures
-    then levels .put-levels .ensures
-    then e .put-pointer3 .ensures
-    then none)
+returns c = fields-put linksFields (c .before .before .before .before .before .before .before .before .before .before .before .before .before .before .before .before .before .before .before .before .before .before .before .before .before .before .before .before .before .args .links) (c .before .before .before .before .before .before .before .before .before .before .before .before .before .before .before .before .before .before .before .before .before .before .before .before .before .before .before .before .before .args .state .now) (c .before .before .before .before .before .before .before .before .before .before .before .before .before .before .before .before .before .before .before .before .before .before .before .before .before .before .before .before .before .args .at) _ (put-counted returnsDepth (c .before .before .before .before .before .before .before .before .before .before .before .before .before .before .before .before .before .before .before .before .before .before .before .before .before .before .before .before .before .args .links .returns) (slice-aggregate-put-array (c .before .before .before .before .before .before .before .before .before .before .before .before .before .before .before .before .before .before .before .before .before .before .before)) (c .before .before .before .before .before .before .before .before .before .before .before .before .before .before .before .before .before .before .before .before .before .before .put-array .ensures) first c .before .before .before .before .before .before .before .before .before .before .before .before .before .before .before .before .before .before .put-pointer .ensures then c .before .before .before .before .before .before .before .before .before .before .before .before .before .before .put-frames .ensures then c .before .before .before .before .before .before .before .before .before .before .put-pointer2 .ensures then c .before .before .before .before .before .before .put-levels .ensures then c .before .before .put-pointer3 .ensures then none)
 
 pub put-links-spec : {M : Type 1} → statement M
 put-links-spec =

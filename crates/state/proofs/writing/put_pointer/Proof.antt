@@ -1,6 +1,7 @@
+-- Made by .ci/named from put_pointer.rules: 4913a06e3b0c8589 bfe276d7b5be1966
 -- Eight bytes written inside the state.
-use borrow.Author.Needs.{needs}
 use Rattle.state.proofs.Putting.{number-put}
+use borrow.Author.Needs.{needs}
 use Rattle.state.proofs.writing.put_pointer.Statement.{statement}
 use Rattle.state.proofs.writing.put_pointer.Tie as tie
 
@@ -11,11 +12,12 @@ same-length : tie.Need-same-length
 same-length c = search needs
 
 returns : tie.Need-returns
-returns c =
-    let write = c .before .before in
-    let start = write .before .before .before in
-    let a = start .args in
-    number-put 8 (a .value) (a .state .now) (a .at) _ (start .pre) (search needs) (write .write-eight .ensures)
+returns c = number-put 8 (c .before .before .before .before .before .args .value) (c .before .before .before .before .before .args .state .now) (c .before .before .before .before .before .args .at) _ (c .before .before .before .before .before .pre) (search needs) (c .before .before .write-eight .ensures)
 
 pub put-pointer-spec : {M : Type 1} → statement M
-put-pointer-spec = tie.close (tie.spec write-eight-requires same-length returns)
+put-pointer-spec =
+    tie.close
+    (tie.spec
+    write-eight-requires
+    same-length
+    returns)
