@@ -1,6 +1,6 @@
--- In a list of tests whose numbers rise the first test that holds has the lowest number of those that hold.
+-- In a list of tests whose numbers rise, by whatever rank a number has, the first test that holds has the lowest of those that hold.
 use mathlib.Core.Logic.{inl, inr}
-use mathlib.Core.Path.{_≡_, refl, sym, _∙_, subst}
+use mathlib.Core.Path.{_≡_, refl, ap, sym, _∙_, subst}
 use mathlib.Core.Bool.{Bool, true, false}
 use mathlib.Core.List.{List, [], _∷_}
 use Prim.Native.Nat.{ℕ, suc, _≤_}
@@ -14,11 +14,6 @@ use Rattle.machine.specs.Laws.Passed.{AllPass}
 use Rattle.machine.specs.declared.Machine.{Machine}
 use Rattle.demands.specs.Lowest.{Applies, First}
 
--- the numbers rise, from n or more
-abbrev pub rising : ℕ → List Test → Bool
-rising n [] = true
-rising n (t ∷ ts) = both (leb n (t .number)) (rising (suc (t .number)) ts)
-
 pub clash : (b : Bool) → b ≡ true → b ≡ false → ⊥
 clash b t f = subst T (sym t ∙ f) tt
 
@@ -27,14 +22,6 @@ pub none-applies : (ts : List Test) → AllPass ts → (k : ℕ) → Applies k t
 none-applies [] h k a = a
 none-applies (t ∷ ts) h k (inl a) = clash (t .holds) (a .1) (h .0)
 none-applies (t ∷ ts) h k (inr a) = none-applies ts (h .1) k a
-
--- a number that applies is no less than the first
-not-less : (n : ℕ) (ts : List Test) → T (rising n ts) → (k : ℕ) → Applies k ts → n ≤ k
-not-less n [] h k a = absurd a
-not-less n (t ∷ ts) h k (inl a) = omega (arith, a .0, leb→le n (t .number) (both-parts (leb n (t .number)) _ h .0))
-not-less n (t ∷ ts) h k (inr a) =
-    let p = both-parts (leb n (t .number)) _ h in
-    omega (arith, leb→le n (t .number) (p .0), not-less (suc (t .number)) ts (p .1) k a)
 
 -- what passes at every number of the list passes at one that applies
 abbrev pub every : (ℕ → Bool) → List Test → Bool
@@ -62,11 +49,28 @@ first-applies k [] f = f
 first-applies k (t ∷ ts) (inl f) = inl f
 first-applies k (t ∷ ts) (inr f) = inr (first-applies k ts (f .1))
 
--- where the numbers rise, the first is the lowest
-pub first-least : (n : ℕ) (ts : List Test) → T (rising n ts) → (k : ℕ) → First k ts → (j : ℕ) → Applies j ts → k ≤ j
-first-least n [] h k f j a = absurd f
-first-least n (t ∷ ts) h k (inl f) j (inl a) = omega (arith, f .0, a .0)
-first-least n (t ∷ ts) h k (inl f) j (inr a) =
-    omega (arith, f .0, not-less (suc (t .number)) ts (both-parts (leb n (t .number)) _ h .1) j a)
-first-least n (t ∷ ts) h k (inr f) j (inl a) = absurd (clash (t .holds) (a .1) (f .0))
-first-least n (t ∷ ts) h k (inr f) j (inr a) = first-least (suc (t .number)) ts (both-parts (leb n (t .number)) _ h .1) k (f .1) j a
+-- numbers are compared by their rank: a test whose place is not its number's has a rank of its own
+module _ (rank : ℕ → ℕ) where
+  -- the ranks rise, from n or more
+  abbrev pub rising : ℕ → List Test → Bool
+  rising n [] = true
+  rising n (t ∷ ts) = both (leb n (rank (t .number))) (rising (suc (rank (t .number))) ts)
+
+  -- a number that applies is no less than the first
+  not-less : (n : ℕ) (ts : List Test) → T (rising n ts) → (k : ℕ) → Applies k ts → n ≤ rank k
+  not-less n [] h k a = absurd a
+  not-less n (t ∷ ts) h k (inl a) =
+      omega (arith, ap rank (a .0), leb→le n (rank (t .number)) (both-parts (leb n (rank (t .number))) _ h .0))
+  not-less n (t ∷ ts) h k (inr a) =
+      let p = both-parts (leb n (rank (t .number))) _ h in
+      omega (arith, leb→le n (rank (t .number)) (p .0), not-less (suc (rank (t .number))) ts (p .1) k a)
+
+  -- where the ranks rise, the first is the lowest
+  pub first-least : (n : ℕ) (ts : List Test) → T (rising n ts) → (k : ℕ) → First k ts → (j : ℕ) → Applies j ts → rank k ≤ rank j
+  first-least n [] h k f j a = absurd f
+  first-least n (t ∷ ts) h k (inl f) j (inl a) = omega (arith, ap rank (f .0), ap rank (a .0))
+  first-least n (t ∷ ts) h k (inl f) j (inr a) =
+      omega (arith, ap rank (f .0), not-less (suc (rank (t .number))) ts (both-parts (leb n (rank (t .number))) _ h .1) j a)
+  first-least n (t ∷ ts) h k (inr f) j (inl a) = absurd (clash (t .holds) (a .1) (f .0))
+  first-least n (t ∷ ts) h k (inr f) j (inr a) =
+      first-least (suc (rank (t .number))) ts (both-parts (leb n (rank (t .number))) _ h .1) k (f .1) j a

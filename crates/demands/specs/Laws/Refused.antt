@@ -19,7 +19,7 @@ refused-first mem m k e =
 pub refused-lowest : (mem : List ℕ) (m : Machine) (k : ℕ) → stepOf mem m ≡ refused k → Lowest k (testsAt mem m)
 refused-lowest mem m k e =
     let f = refused-first mem m k e in
-    record { applies = first-applies k (testsAt mem m) f; lowest = first-least 0 (testsAt mem m) tt k f }
+    record { applies = first-applies k (testsAt mem m) f; lowest = first-least (λ (n : ℕ). n) 0 (testsAt mem m) tt k f }
 
 -- the numbers by which an instruction can be refused
 abbrev pub listed : ℕ → Bool
