@@ -52,7 +52,8 @@ fn put_cut(text: &mut [u8], from: usize, file: &[u8], section: Section, at: usiz
     };
     let limits = image::limits_of(section);
     let counted = count as u64;
-    let numbers = [counted, limits.width as u64 * counted, length];
+    let asked = limits.width as u64 * counted;
+    let numbers = [counted, asked, length];
     words::put(
         text,
         from,

@@ -40,8 +40,8 @@ limits-of-requires c κs = search needs
 cast-counted : tie.Need-cast-counted
 cast-counted c = search needs
 
-mul-t23 : tie.Need-mul-t23
-mul-t23 c = record { fits = small-product (c .before .before .before .before .before .before .before .args .section) _ _ (c .limits-of .ensures) (search needs) }
+mul-asked : tie.Need-mul-asked
+mul-asked c = record { fits = small-product (c .before .before .before .before .before .before .before .args .section) _ _ (c .limits-of .ensures) (search needs) }
 
 slice-aggregate-put-3 : tie.Need-slice-aggregate-put-3
 slice-aggregate-put-3 c = search needs
@@ -80,7 +80,7 @@ put-cut-spec =
     returns
     limits-of-requires
     cast-counted
-    mul-t23
+    mul-asked
     slice-aggregate-put-3
     slice-aggregate-put-4
     put-requires-2
