@@ -5,7 +5,7 @@ use Prim.Native.Nat.{ℕ, _+_, _-_, _*_, _≤_, _<_, _^_}
 use native.Mathlib.Nat.{mul-le-mul}
 use native.Mathlib.Omega.{arith}
 use lib.ListN.{length, drop, replicate, length-replicate, replicate-append-replicate}
-use lib.Seq.{sets, sets-eq, drop-at}
+use lib.Seq.{sets-eq, drop-at}
 use Rattle.plain.specs.Zeros.{padded}
 use Rattle.machine.specs.Limits.{mostBudget}
 use Rattle.numbers.specs.Bytes.{numberAt}
@@ -14,7 +14,7 @@ use Rattle.numbers.specs.Slices.{saysFound, readAt}
 use Rattle.numbers.specs.declared.Found.{Found}
 use Rattle.numbers.specs.declared.Found.the-variants.{Number, Outside}
 use Rattle.image.specs.Format.{limits, countWidth}
-use Rattle.image.specs.Judging.{Finding, Judges, saysJudged, judgedOf}
+use Rattle.image.specs.Judging.{Finding, Judges, saysJudged}
 use Rattle.image.specs.declared.Section.{Section}
 use Rattle.image.specs.declared.Section.the-variants.{Memory, Cells, Budget}
 use Rattle.image.specs.declared.Fault.{Fault}
@@ -24,7 +24,6 @@ use Rattle.image.specs.declared.Judged.{Judged}
 use Rattle.image.specs.declared.Judged.the-variants.{Bad, Good}
 use Rattle.reason.specs.Words.{filled}
 use Rattle.reason.specs.Reason.{foundAt, placeTold, shortTold, missingTold, cutTold, faultTold, goodTold, findingTold, reasonOf, lineOf, room}
-use Rattle.reason.specs.declared.Line.{Line}
 use Rattle.reason.proofs.Found.{was-inside, was-outside}
 
 -- the bytes that a count asks for are a number of 64 bits

@@ -10,7 +10,8 @@ ghost use mathlib.Core.Path.{_≡_};
 ghost use Prim.Native.Nat.{_+_, _≤_};
 ghost use lib.ListN.{length};
 ghost use Rattle.numbers.specs.Putting.{Added};
-ghost use Rattle.reason.specs.Reason.{foundAt, placeTold, cutTold, countTold, budgetTold, faultTold, goodTold, placeRoom, clauseRoom, room};
+ghost use Rattle.reason.specs.Reason.{foundAt, placeTold, cutTold, countTold, budgetTold, faultTold, goodTold};
+ghost use Rattle.reason.specs.Reason.{placeRoom, clauseRoom, room};
 
 // The number that stands at a place, or 0 where the file ends before it does.
 fn found_at(file: &[u8], at: usize) -> u32

@@ -1,6 +1,5 @@
 // Words put after a text so far, with numbers in them. The caller knows that there is room.
 use numbers::Put;
-ghost use mathlib.Core.Bool.{true};
 ghost use mathlib.Core.Path.{_≡_};
 ghost use Prim.Native.Nat.{_+_, _*_, _≤_};
 ghost use lib.Dec.{eqb, ltb};

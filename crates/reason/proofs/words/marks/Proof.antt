@@ -1,7 +1,6 @@
 -- Both tests, one after the other.
 use borrow.Author.Tests.{eq-eqb, ne-eqb}
 use Rattle.reason.specs.Words.{mark}
-use borrow.Author.Needs.{needs}
 use Rattle.reason.proofs.words.marks.Statement.{statement}
 use Rattle.reason.proofs.words.marks.Tie as tie
 

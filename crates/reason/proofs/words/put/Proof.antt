@@ -27,22 +27,25 @@ marks-requires : tie.Need-marks-requires Inv-loop μ-loop
 marks-requires c κs = search needs
 
 mul-put-number : tie.Need-mul-put-number Inv-loop μ-loop
-mul-put-number c = search (needs, number-left)
+mul-put-number c = search needs
 
 shared-slice-read-put-number : tie.Need-shared-slice-read-put-number Inv-loop μ-loop
-shared-slice-read-put-number c = number-left (getD (c .before .before .before .before .before .before .before .before .before .before .args .words .now) (c .before .before .before .before .before .before .loop .i) 0) _ _ _ (c .before .before .before .marks .ensures) (c .before .before .if1 .taken)
+shared-slice-read-put-number c =
+    let loop = c .before .before .before .before .before .before in
+    let start = loop .before .before .before .before in
+    number-left (getD (start .args .words .now) (loop .loop .i) 0) _ _ _ (c .before .before .before .marks .ensures) (c .before .before .if1 .taken)
 
 put-number-requires : tie.Need-put-number-requires Inv-loop μ-loop
 put-number-requires c κs =
-    let left : c .before .before .before .before .before .before .loop .next < length (c .before .before .before .before .before .before .before .before .before .before .args .numbers .now) =
-    number-left (getD (c .before .before .before .before .before .before .before .before .before .before .args .words .now) (c .before .before .before .before .before .before .loop .i) 0) _ _ _ (c .before .before .before .marks .ensures) (c .before .before .if1 .taken) in
-    let loop = c .before .before .before .before .before in
-    let filling = loop .before .loop .inv in
-    let start = loop .before .before .before .before .before in
-    omega (arith, left, loop .loop-test .taken, filling .short, filling .as-long, start .pre)
+    let turn = c .before .before .before .before .before in
+    let loop = turn .before .loop in
+    let start = turn .before .before .before .before .before in
+    let left : loop .next < length (start .args .numbers .now) =
+    number-left (getD (start .args .words .now) (loop .i) 0) _ _ _ (c .before .before .before .marks .ensures) (c .before .before .if1 .taken) in
+    omega (arith, left, turn .loop-test .taken, loop .inv .short, loop .inv .as-long, start .pre)
 
 add-next : tie.Need-add-next Inv-loop μ-loop
-add-next c = search (needs, number-left)
+add-next c = search needs
 
 loop-less : tie.Need-loop-less Inv-loop μ-loop
 loop-less c = search needs
