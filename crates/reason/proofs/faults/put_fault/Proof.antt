@@ -1,0 +1,107 @@
+-- A place, and the clause after it.
+use native.Mathlib.Omega.{arith}
+use Rattle.numbers.specs.Laws.Putting.{added-then}
+use Rattle.reason.proofs.Making.{fault-put}
+use borrow.Author.Needs.{needs}
+use Rattle.reason.proofs.faults.put_fault.Statement.{statement}
+use Rattle.reason.proofs.faults.put_fault.Tie as tie
+
+enum-known-fault : tie.Need-enum-known-fault
+enum-known-fault c = search needs
+
+put-place-requires : tie.Need-put-place-requires
+put-place-requires c κs = search needs
+
+put-cut-requires : tie.Need-put-cut-requires
+put-cut-requires c κs = search needs
+
+enum-known-fault-2 : tie.Need-enum-known-fault-2
+enum-known-fault-2 c = search needs
+
+put-place-requires-2 : tie.Need-put-place-requires-2
+put-place-requires-2 c κs = search needs
+
+put-count-requires : tie.Need-put-count-requires
+put-count-requires c κs = search needs
+
+enum-known-fault-3 : tie.Need-enum-known-fault-3
+enum-known-fault-3 c = search needs
+
+put-place-requires-3 : tie.Need-put-place-requires-3
+put-place-requires-3 c κs = search needs
+
+put-budget-requires : tie.Need-put-budget-requires
+put-budget-requires c κs = search needs
+
+enum-known-fault-4 : tie.Need-enum-known-fault-4
+enum-known-fault-4 c = search needs
+
+slice-aggregate-put : tie.Need-slice-aggregate-put
+slice-aggregate-put c = search needs
+
+slice-aggregate-put-2 : tie.Need-slice-aggregate-put-2
+slice-aggregate-put-2 c = search needs
+
+put-requires : tie.Need-put-requires
+put-requires c κs = search needs
+
+same-length : tie.Need-same-length
+same-length c = search needs
+
+returns : tie.Need-returns
+returns c =
+    let place = c .before .before .before .before .before .before .put-place in
+    let clause = c .before .before .put-cut in
+    (omega (arith, place .ensures .0, clause .ensures .0), fault-put _ _ _ (c .before .before .before .before .before .before .before .before .before .fault .given .1) (added-then (place .ensures .1) (clause .ensures .1)))
+
+same-length-2 : tie.Need-same-length-2
+same-length-2 c = search needs
+
+returns-2 : tie.Need-returns-2
+returns-2 c =
+    let place = c .before .before .before .before .before .before .put-place2 in
+    let clause = c .before .before .put-count in
+    (omega (arith, place .ensures .0, clause .ensures .0), fault-put _ _ _ (c .before .before .before .before .before .before .before .before .before .fault2 .given .1) (added-then (place .ensures .1) (clause .ensures .1)))
+
+same-length-3 : tie.Need-same-length-3
+same-length-3 c = search needs
+
+returns-3 : tie.Need-returns-3
+returns-3 c =
+    let place = c .before .before .before .before .before .before .put-place3 in
+    let clause = c .before .before .put-budget in
+    (omega (arith, place .ensures .0, clause .ensures .0), fault-put _ _ _ (c .before .before .before .before .before .before .before .before .before .fault3 .given .1) (added-then (place .ensures .1) (clause .ensures .1)))
+
+same-length-4 : tie.Need-same-length-4
+same-length-4 c = search needs
+
+returns-4 : tie.Need-returns-4
+returns-4 c =
+    let call = c .before .before .put in
+    (omega (arith, call .ensures .0), fault-put _ _ _ (c .before .before .before .before .before .before .before .fault4 .given .1) (call .ensures .1))
+
+pub put-fault-spec : {M : Type 1} → statement M
+put-fault-spec =
+    tie.close
+    (tie.spec
+    enum-known-fault
+    put-place-requires
+    put-cut-requires
+    enum-known-fault-2
+    put-place-requires-2
+    put-count-requires
+    enum-known-fault-3
+    put-place-requires-3
+    put-budget-requires
+    enum-known-fault-4
+    slice-aggregate-put
+    slice-aggregate-put-2
+    put-requires
+    same-length
+    returns
+    same-length-2
+    returns-2
+    same-length-3
+    returns-3
+    same-length-4
+    returns-4)

@@ -1,0 +1,101 @@
+-- Before each turn so many words and numbers are put; a turn puts one more.
+use mathlib.Core.Path.{sym, _∙_}
+use Prim.Native.Nat.{_-_, _<_}
+use native.Mathlib.Omega.{arith}
+use lib.ListN.{length, getD}
+use Rattle.reason.proofs.Filling.{Filling, filling-none, number-left, filling-number, filling-letter, filling-short, filling-ends}
+use borrow.Author.Needs.{needs}
+use Rattle.reason.proofs.words.put.Statement.{statement}
+use Rattle.reason.proofs.words.put.Tie as tie
+
+abbrev Inv-loop : tie.InvT-loop
+Inv-loop text₀ from words numbers at₀ next₀ i₀ text at next i = Filling words numbers text₀ from text at next i
+
+abbrev μ-loop : tie.MeasureT-loop
+μ-loop text₀ from words numbers at₀ next₀ i₀ text at next i = length words - i
+
+loop-holds : tie.Need-loop-holds Inv-loop μ-loop
+loop-holds c = filling-none _ _ _ _
+
+shared-slice-read-letter : tie.Need-shared-slice-read-letter Inv-loop μ-loop
+shared-slice-read-letter c = search needs
+
+add-i : tie.Need-add-i Inv-loop μ-loop
+add-i c = search needs
+
+marks-requires : tie.Need-marks-requires Inv-loop μ-loop
+marks-requires c κs = search needs
+
+mul-put-number : tie.Need-mul-put-number Inv-loop μ-loop
+mul-put-number c = search needs
+
+shared-slice-read-put-number : tie.Need-shared-slice-read-put-number Inv-loop μ-loop
+shared-slice-read-put-number c =
+    let loop = c .before .before .before .before .before .before in
+    let start = loop .before .before .before .before in
+    number-left (getD (start .args .words .now) (loop .loop .i) 0) _ _ _ (c .before .before .before .marks .ensures) (c .before .before .if1 .taken)
+
+put-number-requires : tie.Need-put-number-requires Inv-loop μ-loop
+put-number-requires c κs =
+    let turn = c .before .before .before .before .before in
+    let loop = turn .before .loop in
+    let start = turn .before .before .before .before .before in
+    let left : loop .next < length (start .args .numbers .now) =
+    number-left (getD (start .args .words .now) (loop .i) 0) _ _ _ (c .before .before .before .marks .ensures) (c .before .before .if1 .taken) in
+    omega (arith, left, turn .loop-test .taken, loop .inv .short, loop .inv .as-long, start .pre)
+
+add-next : tie.Need-add-next Inv-loop μ-loop
+add-next c = search needs
+
+loop-less : tie.Need-loop-less Inv-loop μ-loop
+loop-less c = search needs
+
+loop-again : tie.Need-loop-again Inv-loop μ-loop
+loop-again c =
+    let call = c .before .before .put-number in
+    let marked = c .before .before .before .before .before in
+    let loop = marked .before .before .before in
+    filling-number _ _ _ _ _ _ _ _ (loop .before .loop .inv) (loop .loop-test .taken) _ _ (sym (marked .before .marks .ensures) ∙ marked .if1 .taken) (call .ensures .0) (call .ensures .1)
+
+slice-write-text : tie.Need-slice-write-text Inv-loop μ-loop
+slice-write-text c = search needs
+
+add-at : tie.Need-add-at Inv-loop μ-loop
+add-at c = search needs
+
+loop-less-2 : tie.Need-loop-less-2 Inv-loop μ-loop
+loop-less-2 c = search needs
+
+loop-again-2 : tie.Need-loop-again-2 Inv-loop μ-loop
+loop-again-2 c =
+    let loop = c .before .before .before in
+    filling-letter _ _ _ _ _ _ _ _ (loop .before .loop .inv) (loop .loop-test .taken) (sym (c .before .marks .ensures) ∙ c .if1 .left)
+
+same-length : tie.Need-same-length Inv-loop μ-loop
+same-length c = search needs
+
+returns : tie.Need-returns Inv-loop μ-loop
+returns c = search (needs, filling-short, filling-ends)
+
+pub put-spec : {M : Type 1} → statement M
+put-spec =
+    tie.close
+    (tie.spec
+    Inv-loop
+    μ-loop
+    loop-holds
+    shared-slice-read-letter
+    add-i
+    marks-requires
+    mul-put-number
+    shared-slice-read-put-number
+    put-number-requires
+    add-next
+    loop-less
+    loop-again
+    slice-write-text
+    add-at
+    loop-less-2
+    loop-again-2
+    same-length
+    returns)
