@@ -12,8 +12,8 @@ use lib.Seq.{drop-cons}
 use borrow.Author.Tests.{ltb-true, ltb-false}
 use Rattle.plain.specs.Choice.{both}
 use Rattle.numbers.specs.Digits.{decimal, mostDecimal}
-use Rattle.numbers.specs.Putting.{Added}
-use Rattle.numbers.specs.Laws.Putting.{added-none, added-then, added-last, added-long}
+use Rattle.numbers.specs.Putting.{Appended}
+use Rattle.numbers.specs.Laws.Putting.{appended-none, appended-then, appended-last, appended-long}
 use Rattle.reason.specs.Words.{mark, filled}
 
 -- a mark with a number left, and a character that is none or comes after the last number
@@ -45,7 +45,7 @@ module _ (words numbers l : List ℕ) (from : ℕ) where
   pub record Filling (m : List ℕ) (at next i : ℕ) : Type 0 where
     pub done : List ℕ
     pub rest : filled words numbers ≡ done ++ filled (drop i words) (drop next numbers)
-    pub added : Added l from done m at
+    pub added : Appended l from done m at
     pub few : i ≤ length words
     pub fewer : next ≤ length numbers
     pub short : at ≤ from + i + next * mostDecimal
@@ -53,7 +53,7 @@ module _ (words numbers l : List ℕ) (from : ℕ) where
 
   pub filling-none : Filling l from 0 0
   filling-none =
-      record { done = []; rest = refl; added = added-none l from; few = omega arith; fewer = omega arith; short = omega arith; as-long = refl }
+      record { done = []; rest = refl; added = appended-none l from; few = omega arith; fewer = omega arith; short = omega arith; as-long = refl }
 
   module _ (m : List ℕ) (at next i : ℕ) (f : Filling m at next i) (more : i < length words) where
     abbrev word : ℕ
@@ -72,7 +72,7 @@ module _ (words numbers l : List ℕ) (from : ℕ) where
     numbers-are h = drop-cons numbers next 0 h ∙ ap (λ (n : ℕ). number ∷ drop n numbers) (sym (add-one next))
 
     pub filling-number : (k : List ℕ) (end : ℕ) → both (eqb word mark) (ltb next (length numbers)) ≡ true → end ≤ at + mostDecimal
-        → Added m at (decimal number) k end → Filling k end (next + 1) (i + 1)
+        → Appended m at (decimal number) k end → Filling k end (next + 1) (i + 1)
     filling-number k end t less put =
         let tests = both-true (eqb word mark) (ltb next (length numbers)) t in
         let left : next < length numbers = ltb-true next (length numbers) (tests .1) in
@@ -86,11 +86,11 @@ module _ (words numbers l : List ℕ) (from : ℕ) where
               ∙ ap (λ (n : List ℕ). f .done ++ filled (word ∷ after-word) n) (numbers-are left)
               ∙ ap (λ (t : List ℕ). f .done ++ t) (fill-number word number after-word (drop (next + 1) numbers) (tests .0))
               ∙ sym (append-assoc (f .done) (decimal number) (filled after-word (drop (next + 1) numbers)));
-          added = added-then (f .added) put;
+          added = appended-then (f .added) put;
           few = omega arith;
           fewer = omega arith;
           short = omega arith;
-          as-long = added-long put ∙ f .as-long;
+          as-long = appended-long put ∙ f .as-long;
         }
 
     letter-is : both (eqb word mark) (ltb next (length numbers)) ≡ false
@@ -116,7 +116,7 @@ module _ (words numbers l : List ℕ) (from : ℕ) where
     pub filling-letter : both (eqb word mark) (ltb next (length numbers)) ≡ false → Filling (set m at word) (at + 1) next (i + 1)
     filling-letter t =
         let short : at ≤ from + i + next * mostDecimal = f .short in
-        let put : Added l from (f .done ++ (word ∷ [])) (set m at word) (at + 1) = added-last word (f .added) in
+        let put : Appended l from (f .done ++ (word ∷ [])) (set m at word) (at + 1) = appended-last word (f .added) in
         record {
           done = f .done ++ (word ∷ []);
           rest =
@@ -128,7 +128,7 @@ module _ (words numbers l : List ℕ) (from : ℕ) where
           few = omega arith;
           fewer = f .fewer;
           short = omega arith;
-          as-long = added-long put;
+          as-long = appended-long put;
         }
 
   module _ (m : List ℕ) (at next i : ℕ) (f : Filling m at next i) where
@@ -139,10 +139,10 @@ module _ (words numbers l : List ℕ) (from : ℕ) where
         let fewer : next ≤ length numbers = f .fewer in
         omega arith
 
-    pub filling-ends : length words ≤ i → Added l from (filled words numbers) m at
+    pub filling-ends : length words ≤ i → Appended l from (filled words numbers) m at
     filling-ends h =
         let none : drop i words ≡ [] = drop-of-length-le words {i = i} h in
         let whole : f .done ≡ filled words numbers =
         sym (append-nil (f .done))
         ∙ sym (f .rest ∙ ap (λ (w : List ℕ). f .done ++ filled w (drop next numbers)) none ∙ ap (λ (t : List ℕ). f .done ++ t) (fill-none (drop next numbers))) in
-        subst (λ (t : List ℕ). Added l from t m at) whole (f .added)
+        subst (λ (t : List ℕ). Appended l from t m at) whole (f .added)

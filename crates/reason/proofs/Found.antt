@@ -9,10 +9,10 @@ use Rattle.plain.specs.Answer.{refuses, gives}
 use Rattle.plain.specs.Choice.{pick}
 use Rattle.numbers.specs.Bytes.{numberAt}
 use Rattle.numbers.specs.Digits.{decimal, mostDecimal}
-use Rattle.numbers.specs.Putting.{Added}
+use Rattle.numbers.specs.Putting.{Appended}
 use Rattle.numbers.specs.Slices.{inside, tooShort, saysFound, readAt, saysPut, putAt}
 use Rattle.numbers.specs.Laws.Digits.{decimal-short}
-use Rattle.numbers.specs.Laws.Putting.{put-added, put-has-room}
+use Rattle.numbers.specs.Laws.Putting.{put-appended, put-has-room}
 use Rattle.numbers.specs.declared.Found.{Found}
 use Rattle.numbers.specs.declared.Found.the-variants.{Number, Outside}
 use Rattle.numbers.specs.declared.Put.{Put}
@@ -52,8 +52,8 @@ module _ (v : ℕ) (l m : List ℕ) (at : ℕ) (put : Put) (done : record { said
   pub never-refused : put ≡ NoRoom → ⊥
   never-refused e = put-has-room l m (decimal v) at tooShort (known NoRoom e) (omega (arith, decimal-short v))
 
-  pub number-added : (end : ℕ) → put ≡ Until end → Added l at (decimal v) m end
-  number-added end e = put-added l m (decimal v) at end (known (Until end) e) (omega (arith, decimal-short v))
+  pub number-added : (end : ℕ) → put ≡ Until end → Appended l at (decimal v) m end
+  number-added end e = put-appended l m (decimal v) at end (known (Until end) e) (omega (arith, decimal-short v))
 
   pub number-short : (end : ℕ) → put ≡ Until end → end ≤ at + mostDecimal
   number-short end e =

@@ -9,7 +9,7 @@ use lib.Seq.{sets-eq, drop-at}
 use Rattle.plain.specs.Zeros.{padded}
 use Rattle.machine.specs.Limits.{mostBudget}
 use Rattle.numbers.specs.Bytes.{numberAt}
-use Rattle.numbers.specs.Putting.{Added}
+use Rattle.numbers.specs.Putting.{Appended}
 use Rattle.numbers.specs.Slices.{saysFound, readAt}
 use Rattle.numbers.specs.declared.Found.{Found}
 use Rattle.numbers.specs.declared.Found.the-variants.{Number, Outside}
@@ -19,7 +19,7 @@ use Rattle.image.specs.declared.Section.{Section}
 use Rattle.image.specs.declared.Section.the-variants.{Memory, Cells, Budget}
 use Rattle.image.specs.declared.Fault.{Fault}
 use Rattle.image.specs.declared.Limits.{Limits}
-use Rattle.image.specs.declared.Parts.{Parts}
+use Rattle.image.specs.declared.Spans.{Spans}
 use Rattle.image.specs.declared.Judged.{Judged}
 use Rattle.image.specs.declared.Judged.the-variants.{Bad, Good}
 use Rattle.reason.specs.Words.{filled}
@@ -40,19 +40,19 @@ small-product s l n is h =
 
 -- the same words with numbers known by other names
 pub retold : {before after : List ℕ} {from next : ℕ} (words xs ys : List ℕ) → xs ≡ ys
-    → Added before from (filled words xs) after next → Added before from (filled words ys) after next
-retold {before} {after} {from} {next} words xs ys e = subst (λ (ns : List ℕ). Added before from (filled words ns) after next) e
+    → Appended before from (filled words xs) after next → Appended before from (filled words ys) after next
+retold {before} {after} {from} {next} words xs ys e = subst (λ (ns : List ℕ). Appended before from (filled words ns) after next) e
 
-pub told-as : {before after : List ℕ} {from next : ℕ} {xs ys : List ℕ} → xs ≡ ys → Added before from xs after next → Added before from ys after next
-told-as {before} {after} {from} {next} e = subst (λ (t : List ℕ). Added before from t after next) e
+pub told-as : {before after : List ℕ} {from next : ℕ} {xs ys : List ℕ} → xs ≡ ys → Appended before from xs after next → Appended before from ys after next
+told-as {before} {after} {from} {next} e = subst (λ (t : List ℕ). Appended before from t after next) e
 
 -- what was put for a section or a fault that is known
-pub place-put : {before after : List ℕ} {next : ℕ} (s t : Section) (at : ℕ) → s ≡ t → Added before 0 (placeTold t at) after next
-    → Added before 0 (placeTold s at) after next
+pub place-put : {before after : List ℕ} {next : ℕ} (s t : Section) (at : ℕ) → s ≡ t → Appended before 0 (placeTold t at) after next
+    → Appended before 0 (placeTold s at) after next
 place-put s t at e = told-as (ap (λ (u : Section). placeTold u at) (sym e))
 
-pub fault-put : {before after : List ℕ} {next : ℕ} (file : List ℕ) (f g : Fault) → f ≡ g → Added before 0 (faultTold file g) after next
-    → Added before 0 (faultTold file f) after next
+pub fault-put : {before after : List ℕ} {next : ℕ} (file : List ℕ) (f g : Fault) → f ≡ g → Appended before 0 (faultTold file g) after next
+    → Appended before 0 (faultTold file f) after next
 fault-put file f g e = told-as (ap (faultTold file) (sym e))
 
 pub budget-numbers : (file : List ℕ) (at n : ℕ) → n ≡ foundAt file at → n ∷ mostBudget ∷ [] ≡ foundAt file at ∷ mostBudget ∷ []
@@ -87,7 +87,7 @@ zeros-after n k h =
     ∙ drop-at (replicate k 0) (replicate (n - k) 0) k (length-replicate k 0)
 
 -- what is put from the start of a text of zeros is a line
-line-made : (line m : List ℕ) (count : ℕ) → count ≤ room → Added (replicate room 0) 0 line m count → record { text = m; count = count } ≡ lineOf line
+line-made : (line m : List ℕ) (count : ℕ) → count ≤ room → Appended (replicate room 0) 0 line m count → record { text = m; count = count } ≡ lineOf line
 unfolding lineOf padded
 line-made line m count fits added =
     let counted : count ≡ length line = added .next-is ∙ omega arith in
@@ -100,16 +100,16 @@ line-made line m count fits added =
     λ i. record { text = text i; count = counted i }
 
 module _ (file : List ℕ) (j : Judged) (judges : Judges file j) (m : List ℕ) (count : ℕ) (fits : count ≤ room) where
-  as-found : (f : Finding Parts) → saysJudged j ≡ f → Added (replicate room 0) 0 (findingTold file f) m count
+  as-found : (f : Finding Spans) → saysJudged j ≡ f → Appended (replicate room 0) 0 (findingTold file f) m count
       → record { text = m; count = count } ≡ lineOf (reasonOf file)
   unfolding reasonOf
   as-found f e added =
-      line-made (findingTold file f) m count fits added ∙ ap (λ (g : Finding Parts). lineOf (findingTold file g)) (sym e ∙ judges .clause)
+      line-made (findingTold file f) m count fits added ∙ ap (λ (g : Finding Spans). lineOf (findingTold file g)) (sym e ∙ judges .clause)
 
-  pub bad-line : (fault : Fault) → j ≡ Bad fault → Added (replicate room 0) 0 (faultTold file fault) m count
+  pub bad-line : (fault : Fault) → j ≡ Bad fault → Appended (replicate room 0) 0 (faultTold file fault) m count
       → record { text = m; count = count } ≡ lineOf (reasonOf file)
   bad-line fault e = as-found (saysJudged (Bad fault)) (ap saysJudged e)
 
-  pub good-line : (parts : Parts) → j ≡ Good parts → Added (replicate room 0) 0 (goodTold parts) m count
+  pub good-line : (spans : Spans) → j ≡ Good spans → Appended (replicate room 0) 0 (goodTold spans) m count
       → record { text = m; count = count } ≡ lineOf (reasonOf file)
-  good-line parts e = as-found (saysJudged (Good parts)) (ap saysJudged e)
+  good-line spans e = as-found (saysJudged (Good spans)) (ap saysJudged e)

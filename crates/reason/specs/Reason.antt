@@ -8,12 +8,12 @@ use Rattle.machine.specs.Limits.{mostBudget}
 use Rattle.numbers.specs.Bytes.{numberAt}
 use Rattle.numbers.specs.Slices.{inside}
 use Rattle.image.specs.Format.{limits, countWidth}
-use Rattle.image.specs.Judging.{Finding, fails, stands, judgedOf}
+use Rattle.image.specs.Judging.{Finding, fails, finds, judgedOf}
 use Rattle.image.specs.declared.Section.{Section}
 use Rattle.image.specs.declared.Section.the-variants as section
 use Rattle.image.specs.declared.Fault.{Fault}
 use Rattle.image.specs.declared.Fault.the-variants.{Cut, Count, Budget, Surplus}
-use Rattle.image.specs.declared.Parts.{Parts}
+use Rattle.image.specs.declared.Spans.{Spans}
 use Rattle.reason.specs.Words.{told}
 use Rattle.reason.specs.declared.Line.{Line}
 
@@ -52,12 +52,12 @@ faultTold file (Count s at) = placeTold s at ++ countTold file s at
 faultTold file (Budget at) = placeTold section.Budget at ++ budgetTold file at
 faultTold file (Surplus at) = told "section 3 (budget) ends before byte #, and nothing may follow it\n" (at ∷ [])
 
-abbrev pub goodTold : Parts → List ℕ
-goodTold parts = told "the image is good; memory bytes: #, cells: #\n" (parts .memory .count ∷ parts .cells .count ∷ [])
+abbrev pub goodTold : Spans → List ℕ
+goodTold spans = told "the image is good; memory bytes: #, cells: #\n" (spans .memory .count ∷ spans .cells .count ∷ [])
 
-abbrev pub findingTold : List ℕ → Finding Parts → List ℕ
+abbrev pub findingTold : List ℕ → Finding Spans → List ℕ
 findingTold file (fails number fault) = faultTold file fault
-findingTold file (stands parts) = goodTold parts
+findingTold file (finds spans) = goodTold spans
 
 -- the one line about a file: of a bad one it tells the clause that the judge says fails first
 unfoldable pub reasonOf : List ℕ → List ℕ

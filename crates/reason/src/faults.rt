@@ -2,14 +2,14 @@
 // is room.
 use crate::words;
 use image::Fault;
-use image::Parts;
 use image::Section;
+use image::Spans;
 use machine::Machine;
 use numbers::Found;
 ghost use mathlib.Core.Path.{_≡_};
 ghost use Prim.Native.Nat.{_+_, _≤_};
 ghost use lib.ListN.{length};
-ghost use Rattle.numbers.specs.Putting.{Added};
+ghost use Rattle.numbers.specs.Putting.{Appended};
 ghost use Rattle.reason.specs.Reason.{foundAt, placeTold, cutTold, countTold, budgetTold, faultTold, goodTold};
 ghost use Rattle.reason.specs.Reason.{placeRoom, clauseRoom, room};
 
@@ -26,7 +26,7 @@ fn found_at(file: &[u8], at: usize) -> u32
 // The section, and the byte of the file.
 fn put_place(text: &mut [u8], section: Section, at: usize) -> usize
     requires { ⌜ placeRoom ≤ length (now text) ⌝ }
-    ensures { λ r. ⌜ (r ≤ placeRoom) × Added (now (text .entry)) 0 (placeTold section at) (now (text .exit)) r ⌝ }
+    ensures { λ r. ⌜ (r ≤ placeRoom) × Appended (now (text .entry)) 0 (placeTold section at) (now (text .exit)) r ⌝ }
 {
     let numbers = [at as u64];
     match section {
@@ -39,7 +39,7 @@ fn put_place(text: &mut [u8], section: Section, at: usize) -> usize
 // That the file ends in a section: in its count, or in what is counted.
 fn put_cut(text: &mut [u8], from: usize, file: &[u8], section: Section, at: usize) -> usize
     requires { ⌜ from + clauseRoom ≤ length (now text) ⌝ }
-    ensures { λ r. ⌜ (r ≤ from + clauseRoom) × Added (now (text .entry)) from (cutTold (now (file .entry)) section at) (now (text .exit)) r ⌝ }
+    ensures { λ r. ⌜ (r ≤ from + clauseRoom) × Appended (now (text .entry)) from (cutTold (now (file .entry)) section at) (now (text .exit)) r ⌝ }
 {
     let length = file.len() as u64;
     let Found::Number(count) = numbers::read_four(file, at) else {
@@ -66,7 +66,7 @@ fn put_cut(text: &mut [u8], from: usize, file: &[u8], section: Section, at: usiz
 // A count outside its limits.
 fn put_count(text: &mut [u8], from: usize, file: &[u8], section: Section, at: usize) -> usize
     requires { ⌜ from + clauseRoom ≤ length (now text) ⌝ }
-    ensures { λ r. ⌜ (r ≤ from + clauseRoom) × Added (now (text .entry)) from (countTold (now (file .entry)) section at) (now (text .exit)) r ⌝ }
+    ensures { λ r. ⌜ (r ≤ from + clauseRoom) × Appended (now (text .entry)) from (countTold (now (file .entry)) section at) (now (text .exit)) r ⌝ }
 {
     let limits = image::limits_of(section);
     let count = found_at(file, at);
@@ -82,7 +82,7 @@ fn put_count(text: &mut [u8], from: usize, file: &[u8], section: Section, at: us
 // A budget past its limit.
 fn put_budget(text: &mut [u8], from: usize, file: &[u8], at: usize) -> usize
     requires { ⌜ from + clauseRoom ≤ length (now text) ⌝ }
-    ensures { λ r. ⌜ (r ≤ from + clauseRoom) × Added (now (text .entry)) from (budgetTold (now (file .entry)) at) (now (text .exit)) r ⌝ }
+    ensures { λ r. ⌜ (r ≤ from + clauseRoom) × Appended (now (text .entry)) from (budgetTold (now (file .entry)) at) (now (text .exit)) r ⌝ }
 {
     let budget = found_at(file, at);
     let numbers = [budget as u64, Machine::BUDGET as u64];
@@ -96,7 +96,7 @@ fn put_budget(text: &mut [u8], from: usize, file: &[u8], at: usize) -> usize
 
 pub(crate) fn put_fault(text: &mut [u8], file: &[u8], fault: Fault) -> usize
     requires { ⌜ room ≤ length (now text) ⌝ }
-    ensures { λ r. ⌜ (r ≤ room) × Added (now (text .entry)) 0 (faultTold (now (file .entry)) fault) (now (text .exit)) r ⌝ }
+    ensures { λ r. ⌜ (r ≤ room) × Appended (now (text .entry)) 0 (faultTold (now (file .entry)) fault) (now (text .exit)) r ⌝ }
 {
     match fault {
         Fault::Cut(section, at) => {
@@ -123,12 +123,12 @@ pub(crate) fn put_fault(text: &mut [u8], file: &[u8], fault: Fault) -> usize
     }
 }
 
-pub(crate) fn put_good(text: &mut [u8], parts: Parts) -> usize
+pub(crate) fn put_good(text: &mut [u8], spans: Spans) -> usize
     requires { ⌜ room ≤ length (now text) ⌝ }
-    ensures { λ r. ⌜ (r ≤ room) × Added (now (text .entry)) 0 (goodTold parts) (now (text .exit)) r ⌝ }
+    ensures { λ r. ⌜ (r ≤ room) × Appended (now (text .entry)) 0 (goodTold spans) (now (text .exit)) r ⌝ }
 {
-    let memory = parts.memory;
-    let cells = parts.cells;
+    let memory = spans.memory;
+    let cells = spans.cells;
     let numbers = [memory.count as u64, cells.count as u64];
     words::put(
         text,

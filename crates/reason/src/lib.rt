@@ -22,7 +22,7 @@ pub fn reason(file: &[u8]) -> Line
     let mut text = [0u8; ROOM];
     let count = match image::judge(file) {
         Judged::Bad(fault) => faults::put_fault(&mut text, file, fault),
-        Judged::Good(parts) => faults::put_good(&mut text, parts),
+        Judged::Good(spans) => faults::put_good(&mut text, spans),
     };
     Line { text, count }
 }

@@ -6,14 +6,14 @@ ghost use lib.Dec.{eqb, ltb};
 ghost use lib.ListN.{length};
 ghost use Rattle.plain.specs.Choice.{both};
 ghost use Rattle.numbers.specs.Digits.{decimal, mostDecimal};
-ghost use Rattle.numbers.specs.Putting.{Added};
+ghost use Rattle.numbers.specs.Putting.{Appended};
 ghost use Rattle.reason.specs.Words.{mark, filled};
 
 const MARK: u8 = b'#';
 
 fn put_number(text: &mut [u8], at: usize, value: u64) -> usize
     requires { ⌜ at + mostDecimal ≤ length (now text) ⌝ }
-    ensures { λ r. ⌜ (r ≤ at + mostDecimal) × Added (now (text .entry)) at (decimal value) (now (text .exit)) r ⌝ }
+    ensures { λ r. ⌜ (r ≤ at + mostDecimal) × Appended (now (text .entry)) at (decimal value) (now (text .exit)) r ⌝ }
 {
     let Put::Until(end) = numbers::write_decimal(text, at, value) else {
         return at;
@@ -34,7 +34,7 @@ fn marks(letter: u8, next: usize, count: usize) -> bool
 // Returns where the text then ends.
 pub(crate) fn put(text: &mut [u8], from: usize, words: &[u8], numbers: &[u64]) -> usize
     requires { ⌜ from + length (now words) + length (now numbers) * mostDecimal ≤ length (now text) ⌝ }
-    ensures { λ r. ⌜ (r ≤ from + length (now (words .entry)) + length (now (numbers .entry)) * mostDecimal) × Added (now (text .entry)) from (filled (now (words .entry)) (now (numbers .entry))) (now (text .exit)) r ⌝ }
+    ensures { λ r. ⌜ (r ≤ from + length (now (words .entry)) + length (now (numbers .entry)) * mostDecimal) × Appended (now (text .entry)) from (filled (now (words .entry)) (now (numbers .entry))) (now (text .exit)) r ⌝ }
 {
     let mut at = from;
     let mut next = 0;

@@ -33,7 +33,7 @@ returns c =
 returns-2 : tie.Need-returns-2
 returns-2 c =
     let call = c .before .put-good in
-    good-line _ _ (c .before .before .before .before .before .before .judge .ensures) _ _ (call .ensures .0) _ (c .before .before .before .before .parts .given .1) (call .ensures .1)
+    good-line _ _ (c .before .before .before .before .before .before .judge .ensures) _ _ (call .ensures .0) _ (c .before .before .before .before .spans .given .1) (call .ensures .1)
 
 pub reason-spec : {M : Type 1} → statement M
 reason-spec =

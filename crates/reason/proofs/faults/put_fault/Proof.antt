@@ -1,6 +1,6 @@
 -- A place, and the clause after it.
 use native.Mathlib.Omega.{arith}
-use Rattle.numbers.specs.Laws.Putting.{added-then}
+use Rattle.numbers.specs.Laws.Putting.{appended-then}
 use Rattle.reason.proofs.Making.{fault-put}
 use borrow.Author.Needs.{needs}
 use Rattle.reason.proofs.faults.put_fault.Statement.{statement}
@@ -52,7 +52,7 @@ returns : tie.Need-returns
 returns c =
     let place = c .before .before .before .before .before .before .put-place in
     let clause = c .before .before .put-cut in
-    (omega (arith, place .ensures .0, clause .ensures .0), fault-put _ _ _ (c .before .before .before .before .before .before .before .before .before .fault .given .1) (added-then (place .ensures .1) (clause .ensures .1)))
+    (omega (arith, place .ensures .0, clause .ensures .0), fault-put _ _ _ (c .before .before .before .before .before .before .before .before .before .fault .given .1) (appended-then (place .ensures .1) (clause .ensures .1)))
 
 same-length-2 : tie.Need-same-length-2
 same-length-2 c = search needs
@@ -61,7 +61,7 @@ returns-2 : tie.Need-returns-2
 returns-2 c =
     let place = c .before .before .before .before .before .before .put-place2 in
     let clause = c .before .before .put-count in
-    (omega (arith, place .ensures .0, clause .ensures .0), fault-put _ _ _ (c .before .before .before .before .before .before .before .before .before .fault2 .given .1) (added-then (place .ensures .1) (clause .ensures .1)))
+    (omega (arith, place .ensures .0, clause .ensures .0), fault-put _ _ _ (c .before .before .before .before .before .before .before .before .before .fault2 .given .1) (appended-then (place .ensures .1) (clause .ensures .1)))
 
 same-length-3 : tie.Need-same-length-3
 same-length-3 c = search needs
@@ -70,7 +70,7 @@ returns-3 : tie.Need-returns-3
 returns-3 c =
     let place = c .before .before .before .before .before .before .put-place3 in
     let clause = c .before .before .put-budget in
-    (omega (arith, place .ensures .0, clause .ensures .0), fault-put _ _ _ (c .before .before .before .before .before .before .before .before .before .fault3 .given .1) (added-then (place .ensures .1) (clause .ensures .1)))
+    (omega (arith, place .ensures .0, clause .ensures .0), fault-put _ _ _ (c .before .before .before .before .before .before .before .before .before .fault3 .given .1) (appended-then (place .ensures .1) (clause .ensures .1)))
 
 same-length-4 : tie.Need-same-length-4
 same-length-4 c = search needs
