@@ -1,3 +1,4 @@
+-- Made by .ci/named from show.rules: 9dc7a4f8a79329d6 0dd457e9c4bcbcca
 -- The part of the text that is written has as many bytes as were asked for.
 use mathlib.Core.Path.{sym}
 use lib.Seq.{length-take-le}
