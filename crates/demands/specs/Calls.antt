@@ -5,7 +5,8 @@ use Prim.Native.Nat.{ℕ, _+_}
 use Rattle.machine.specs.Run.{runOf}
 use Rattle.machine.specs.declared.Machine.{Machine}
 use Rattle.state.specs.Layout as layout
-use Rattle.host.specs.Handed.{Handed, Hands, wrong-length, run, handedBack}
+use Rattle.state.specs.Lent.{Lent}
+use Rattle.host.specs.Handed.{Hands, wrong-length, run, handedBack}
 use Rattle.demands.specs.History.{World, History, stepsIn, cyclesIn}
 use Rattle.demands.specs.Sessions.{Given, worldAfterRuns, Follows}
 
@@ -15,7 +16,7 @@ pub record Carries (state : List ℕ) (m : Machine) : Type 0 where
   pub spelled : layout.state .bytes m ≡ state
 
 -- a call ran the machine, and the bytes that it handed back carry the machine that the run left
-pub record Handled (memory : List ℕ) (budget : ℕ) (m : Machine) (handed : Handed) : Type 0 where
+pub record Handled (memory : List ℕ) (budget : ℕ) (m : Machine) (handed : Lent) : Type 0 where
   pub as-run : handed ≡ handedBack (runOf memory m budget)
   pub bytes-carry : Carries (handed .state) (runOf memory m budget .ran .machine)
 
@@ -23,7 +24,7 @@ pub record Handled (memory : List ℕ) (budget : ℕ) (m : Machine) (handed : Ha
 -- any buffer for the counts
 pub data Calls : List ℕ → List ℕ → Type 0 where
   over : {state : List ℕ} → Calls state state
-  host-call : {state end : List ℕ} {handed : Handed} (memory : List ℕ) (budget : ℕ) (result : List ℕ) → Hands state memory budget result handed
+  host-call : {state end : List ℕ} {handed : Lent} (memory : List ℕ) (budget : ℕ) (result : List ℕ) → Hands state memory budget result handed
       → Calls (handed .state) end → Calls state end
 
 -- the runs of the calls, with the steps and the cycles that they report, added up; a call with a buffer of another length runs nothing

@@ -8,13 +8,14 @@ use Rattle.plain.specs.Answer.{Answer, refuses, gives}
 use Rattle.machine.specs.Run.{After, runOf}
 use Rattle.machine.specs.declared.Machine.{Machine}
 use Rattle.state.specs.Layout as layout
+use Rattle.state.specs.Lent.{Lent}
 use Rattle.state.specs.Promise.{Takes, wrong-length, spelled, Gives, wrong-size, filled}
-use Rattle.host.specs.Handed.{Handed, Hands, handedBack}
+use Rattle.host.specs.Handed.{Hands, handedBack}
 use Rattle.host.specs.Handed as handed
 use Rattle.host.specs.Laws.Budget.{narrowedTo, same-run}
 
 module _ (state memory : List ℕ) (budget : ℕ) (result : List ℕ) where
-  abbrev nothing-touched : Handed
+  abbrev nothing-touched : Lent
   nothing-touched = record { number = 2; state = state; memory = memory; result = result }
 
   pub other-result : (length result ≡ layout.result .width → ⊥) → Hands state memory budget result nothing-touched

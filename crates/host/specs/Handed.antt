@@ -7,16 +7,10 @@ use Rattle.plain.specs.Answer.{notAsAsked}
 use Rattle.machine.specs.Run.{After, runOf}
 use Rattle.machine.specs.declared.Machine.{Machine}
 use Rattle.state.specs.Layout as layout
-
--- the number, and the three lent buffers afterwards
-pub record Handed : Type 0 where
-  pub number : ℕ
-  pub state : List ℕ
-  pub memory : List ℕ
-  pub result : List ℕ
+use Rattle.state.specs.Lent.{Lent}
 
 -- what a run leaves, for the host; a run that answers 2 leaves its state and memory as they were
-abbrev pub handedBack : After → Handed
+abbrev pub handedBack : After → Lent
 handedBack after =
     let ran = after .ran in
     record {
@@ -28,7 +22,7 @@ handedBack after =
 
 -- `Hands state memory budget result handed`: another length of the state or the result is 2, and nothing is touched;
 -- else the machine whose bytes the state is runs on the memory, and the bytes can carry the machine that it leaves
-pub data Hands (state memory : List ℕ) (budget : ℕ) (result : List ℕ) : Handed → Type 0 where
+pub data Hands (state memory : List ℕ) (budget : ℕ) (result : List ℕ) : Lent → Type 0 where
   wrong-length : ((length state ≡ layout.state .width) × (length result ≡ layout.result .width) → ⊥)
       → Hands state memory budget result (record { number = notAsAsked; state = state; memory = memory; result = result })
   run : (m : Machine) → length state ≡ layout.state .width → length result ≡ layout.result .width

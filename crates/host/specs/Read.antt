@@ -5,10 +5,11 @@ use Prim.Native.Nat.{ℕ}
 use Rattle.plain.specs.Answer.{gives}
 use Rattle.machine.specs.Run.{runOf}
 use Rattle.image.specs.Loading.{Reading, Read}
-use Rattle.host.specs.Handed.{Handed, handedBack}
+use Rattle.host.specs.Handed.{handedBack}
+use Rattle.state.specs.Lent.{Lent}
 
 -- `RunsRead image memory budget ran`: the image is good, and what is handed back is the run of what it spells
-pub record RunsRead (image memory : List ℕ) (budget : ℕ) (ran : Handed) : Type 0 where
+pub record RunsRead (image memory : List ℕ) (budget : ℕ) (ran : Lent) : Type 0 where
   pub reading : Reading
   pub is-read : Read image memory (reading .memory) (reading .returned)
   pub good : reading .returned .says ≡ gives tt

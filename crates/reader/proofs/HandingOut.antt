@@ -17,8 +17,9 @@ use Rattle.image.specs.declared.Loaded.{Loaded}
 use Rattle.image.specs.declared.Verdict.the-variants.{Good, Refused}
 use Rattle.state.specs.Parts.{fieldBytes}
 use Rattle.state.specs.Layout as layout
+use Rattle.state.specs.Lent.{Lent}
 use Rattle.state.specs.Promise.{Gives, wrong-size, filled}
-use Rattle.reader.specs.Reads.{HandedOut, Reads, beside}
+use Rattle.reader.specs.Reads.{Reads, beside}
 use Rattle.reader.specs.Reads as reads
 
 -- what the reader refuses it returns fresh, and leaves the memory as it was
@@ -52,7 +53,7 @@ budget-written budget before w long e =
     ∙ ap (λ (rest : List ℕ). bytes ++ rest) (ap (λ (k : ℕ). drop k before) all ∙ drop-length before)
 
 module _ (image memory state result : List ℕ) where
-  abbrev untouched : ℕ → HandedOut
+  abbrev untouched : ℕ → Lent
   untouched number = record { number = number; state = state; memory = memory; result = result }
 
   pub other-state : (length state ≡ layout.state .width → ⊥) → Reads image memory state result (untouched 2)

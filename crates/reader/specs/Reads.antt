@@ -7,6 +7,7 @@ use Rattle.plain.specs.Answer.{gives, notAsAsked}
 use Rattle.image.specs.Loading.{Reading, Read, refusedWith}
 use Rattle.state.specs.Parts.{Part, Field, _of_, fields}
 use Rattle.state.specs.Layout as layout
+use Rattle.state.specs.Lent.{Lent}
 
 -- what an image spells beside memory and machine
 pub record Beside : Type 0 where
@@ -19,15 +20,8 @@ besideFields = layout.pointer of (λ b. b .budget) ∷ []
 abbrev pub beside : Part Beside
 beside = fields besideFields
 
--- the number, and the three lent buffers afterwards
-pub record HandedOut : Type 0 where
-  pub number : ℕ
-  pub state : List ℕ
-  pub memory : List ℕ
-  pub result : List ℕ
-
 -- what a good image leaves, for the host
-abbrev pub handedOut : Reading → HandedOut
+abbrev pub handedOut : Reading → Lent
 handedOut reading =
     let read = reading .returned in
     record {
@@ -39,7 +33,7 @@ handedOut reading =
 
 -- `Reads image memory state result out`: another length of the state or the result is 2, then what the reader refuses has its
 -- number, and both touch nothing; else the state is the machine that was read and the result its budget, and the bytes can carry both
-pub data Reads (image memory state result : List ℕ) : HandedOut → Type 0 where
+pub data Reads (image memory state result : List ℕ) : Lent → Type 0 where
   wrong-length : ((length state ≡ layout.state .width) × (length result ≡ beside .width) → ⊥)
       → Reads image memory state result (record { number = notAsAsked; state = state; memory = memory; result = result })
   refused : (number : ℕ) → length state ≡ layout.state .width → length result ≡ beside .width

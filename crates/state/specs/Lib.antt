@@ -4,6 +4,8 @@ pub mod Parts
 pub mod Layout
 -- what the public functions promise
 pub mod Promise
+-- what a host has after an exported call
+pub mod Lent
 -- what the private functions promise each other
 pub mod Places
 pub mod Laws

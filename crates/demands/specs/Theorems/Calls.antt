@@ -10,9 +10,10 @@ use Rattle.machine.specs.Laws.Carries.{run-carries}
 use Rattle.machine.specs.Run.{After, runOf}
 use Rattle.machine.specs.declared.Machine.{Machine}
 use Rattle.state.specs.Layout as layout
+use Rattle.state.specs.Lent.{Lent}
 use Rattle.state.specs.Laws.Spelling.{state-sound}
 use Rattle.state.specs.Laws.Fits.{machine-carried, machine-exists, machine-whole}
-use Rattle.host.specs.Handed.{Handed, Hands, wrong-length, run, handedBack}
+use Rattle.host.specs.Handed.{Hands, wrong-length, run, handedBack}
 use Rattle.demands.specs.History.{World, worldAfter, host, History, here, then, joined, Resets}
 use Rattle.demands.specs.Back.{Loses, through, Back}
 use Rattle.demands.specs.Sessions.{Follows, none, next}
@@ -28,7 +29,7 @@ as-long : (state : List ℕ) (m : Machine) → Carries state m → length state 
 as-long state m carries = ap length (sym (carries .spelled)) ∙ state-sound .long m (carries .fit)
 
 -- A call runs the machine that the bytes carry, and hands back bytes that carry the machine that the run leaves.
-pub handled : (state memory : List ℕ) (budget : ℕ) (result : List ℕ) (handed : Handed) (m : Machine) → Carries state m → length result ≡ layout.result .width
+pub handled : (state memory : List ℕ) (budget : ℕ) (result : List ℕ) (handed : Lent) (m : Machine) → Carries state m → length result ≡ layout.result .width
     → Hands state memory budget result handed → Handled memory budget m handed
 handled state memory budget result handed m carries long (wrong-length h) =
     absurd (h (as-long state m carries, long))
@@ -46,7 +47,7 @@ answered state memory budget result m carries bytes long =
     run m (as-long state m carries) long (carries .fit) (carries .spelled) (machine-carried (runOf memory m budget .ran .machine) (still .whole) (still .fits))
 
 -- So the next call takes the very machine that was left: two calls are the two runs, one after the other.
-pub handled-again : (state memory later : List ℕ) (budget again : ℕ) (result other : List ℕ) (handed back : Handed) (m : Machine) → Carries state m
+pub handled-again : (state memory later : List ℕ) (budget again : ℕ) (result other : List ℕ) (handed back : Lent) (m : Machine) → Carries state m
     → length result ≡ layout.result .width → length other ≡ layout.result .width
     → Hands state memory budget result handed → Hands (handed .state) later again other back
     → Handled later again (runOf memory m budget .ran .machine) back

@@ -5,9 +5,10 @@ use Prim.Native.Nat.{ℕ}
 use Rattle.machine.specs.Run.{runOf}
 use Rattle.machine.specs.declared.Machine.{Machine}
 use Rattle.state.specs.Laws.Spelling.{state-sound}
-use Rattle.host.specs.Handed.{Handed, Hands, wrong-length, run, handedBack}
+use Rattle.host.specs.Handed.{Hands, wrong-length, run, handedBack}
+use Rattle.state.specs.Lent.{Lent}
 
-pub only-handed : (state memory : List ℕ) (budget : ℕ) (result : List ℕ) (a b : Handed)
+pub only-handed : (state memory : List ℕ) (budget : ℕ) (result : List ℕ) (a b : Lent)
     → Hands state memory budget result a → Hands state memory budget result b → a ≡ b
 only-handed state memory budget result a b (wrong-length h) (wrong-length k) = refl
 only-handed state memory budget result a b (wrong-length h) (run n all long fits is left) = absurd (h (all, long))

@@ -10,10 +10,11 @@ use Rattle.machine.specs.declared.Machine.{Machine}
 use Rattle.image.specs.Loading.{Read, wrong-memory, not-spelled, refusedWith, loadedFrom}
 use Rattle.image.specs.Loading as loading
 use Rattle.state.specs.Layout as layout
+use Rattle.state.specs.Lent.{Lent}
 use Rattle.state.specs.Laws.Spelling.{state-sound}
-use Rattle.host.specs.Handed.{Handed, Hands, wrong-length, run, handedBack}
+use Rattle.host.specs.Handed.{Hands, wrong-length, run, handedBack}
 use Rattle.host.specs.Read.{RunsRead}
-use Rattle.reader.specs.Reads.{HandedOut, Reads, refused, read}
+use Rattle.reader.specs.Reads.{Reads, refused, read}
 use Rattle.reader.specs.Reads as reads
 
 -- no refusal of the reader is taken for a good image
@@ -24,7 +25,7 @@ refusal-not-zero file before after h number (not-spelled long none) e zero = let
 refusal-not-zero file before after h number (loading.read i long allowed spells) e zero = let z : _≡_ {A = ℕ} 0 1 = cc in omega arith
 
 module _ (image memory state result : List ℕ) (budget : ℕ) (counts : List ℕ) where
-  pub read-then-run : (a : HandedOut) (b : Handed) → Reads image memory state result a → a .number ≡ 0 → length counts ≡ layout.result .width
+  pub read-then-run : (a b : Lent) → Reads image memory state result a → a .number ≡ 0 → length counts ≡ layout.result .width
       → Hands (a .state) (a .memory) budget counts b → RunsRead image memory budget b
   unfolding refusedWith
   read-then-run a b (reads.wrong-length h) zero long hands = absurd (omega arith)

@@ -6,7 +6,8 @@ use native.Mathlib.Omega.{arith}
 use Rattle.plain.specs.Answer.{Answer, refuses, gives}
 use Rattle.image.specs.Loading.{Reading, Read, refusedWith}
 use Rattle.image.specs.Laws.Only.{only-reading}
-use Rattle.reader.specs.Reads.{HandedOut, Reads, wrong-length, refused, read, handedOut}
+use Rattle.reader.specs.Reads.{Reads, wrong-length, refused, read, handedOut}
+use Rattle.state.specs.Lent.{Lent}
 
 -- what the reader says of an image is one thing
 one-saying : (image memory : List ℕ) (x y : Reading) → Read image memory (x .memory) (x .returned) → Read image memory (y .memory) (y .returned)
@@ -25,7 +26,7 @@ module _ (image memory state result : List ℕ) where
       let z : _≡_ {A = ℕ} 0 1 = cc in
       omega arith
 
-  pub only-reads : (a b : HandedOut) → Reads image memory state result a → Reads image memory state result b → a ≡ b
+  pub only-reads : (a b : Lent) → Reads image memory state result a → Reads image memory state result b → a ≡ b
   unfolding refusedWith
   only-reads a b (wrong-length h) (wrong-length k) = refl
   only-reads a b (wrong-length h) (refused n all long is) = absurd (h (all, long))

@@ -1,4 +1,4 @@
--- Made by .ci/named from give.rules: 33e1a92d1859cdf0 d433626a4c5f991c
+-- Made by .ci/named from give.rules: d09d105c58c4b533 d433626a4c5f991c
 -- Each field is put where the one before it ends, and together they fill the buffer.
 use Rattle.links.specs.Depths.{cellsDepth}
 use Rattle.state.specs.Layout.{stateFields, state}
