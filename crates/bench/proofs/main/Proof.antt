@@ -1,3 +1,4 @@
+-- Made by .ci/named from main.rules: b9780c6d1bba6d11 52633d954873adbe
 -- The image that is run is the part of the buffer that was read.
 use Rattle.streams.specs.Laws.{read-inside, read-counted}
 use borrow.Author.Needs.{needs}
@@ -20,10 +21,10 @@ returns : tie.Need-returns
 returns c = search needs
 
 array-share-prefix-image : tie.Need-array-share-prefix-image
-array-share-prefix-image c = read-inside _ _ _ (c .before .before .before .before .read .ensures) (c .before .read2 .given .1)
+array-share-prefix-image c = search (needs, read-inside)
 
 slice-aggregate-bench : tie.Need-slice-aggregate-bench
-slice-aggregate-bench c = read-counted _ _ _ (c .before .before .before .before .before .read .ensures) (c .before .before .read2 .given .1)
+slice-aggregate-bench c = search (needs, read-counted)
 
 slice-aggregate-bench-2 : tie.Need-slice-aggregate-bench-2
 slice-aggregate-bench-2 c = search needs

@@ -1,3 +1,4 @@
+-- Made by .ci/named from reason.rules: fcd6cbee86fdba05 761e20bd5a663f9b
 -- What was put for the judgement is the line.
 use Rattle.reason.proofs.Making.{bad-line, good-line}
 use borrow.Author.Needs.{needs}
@@ -16,8 +17,8 @@ slice-aggregate-put-fault c = search needs
 put-fault-requires : tie.Need-put-fault-requires
 put-fault-requires c κs = search needs
 
-enum-known-parts : tie.Need-enum-known-parts
-enum-known-parts c = search needs
+enum-known-spans : tie.Need-enum-known-spans
+enum-known-spans c = search needs
 
 slice-aggregate-put-good : tie.Need-slice-aggregate-put-good
 slice-aggregate-put-good c = search needs
@@ -26,14 +27,10 @@ put-good-requires : tie.Need-put-good-requires
 put-good-requires c κs = search needs
 
 returns : tie.Need-returns
-returns c =
-    let call = c .before .put-fault in
-    bad-line _ _ (c .before .before .before .before .before .before .judge .ensures) _ _ (call .ensures .0) _ (c .before .before .before .before .fault .given .1) (call .ensures .1)
+returns c = search (needs, bad-line)
 
 returns-2 : tie.Need-returns-2
-returns-2 c =
-    let call = c .before .put-good in
-    good-line _ _ (c .before .before .before .before .before .before .judge .ensures) _ _ (call .ensures .0) _ (c .before .before .before .before .spans .given .1) (call .ensures .1)
+returns-2 c = search (needs, good-line)
 
 pub reason-spec : {M : Type 1} → statement M
 reason-spec =
@@ -43,7 +40,7 @@ reason-spec =
     enum-known-fault
     slice-aggregate-put-fault
     put-fault-requires
-    enum-known-parts
+    enum-known-spans
     slice-aggregate-put-good
     put-good-requires
     returns

@@ -1,5 +1,5 @@
+-- Made by .ci/named from write.rules: 5e45fffb89d54f3e 345d7e9d2248fd95
 -- The part of the text that is written has as many bytes as were asked for.
-use mathlib.Core.Path.{sym}
 use lib.Seq.{length-take-le}
 use borrow.Author.Needs.{needs}
 use Rattle.streams.proofs.write.Statement.{statement}
@@ -9,7 +9,7 @@ returns : tie.Need-returns
 returns c = search needs
 
 slice-aggregate-write-all : tie.Need-slice-aggregate-write-all
-slice-aggregate-write-all c = sym (length-take-le _ (c .before .before .before .args .text .now) (c .before .if1 .left))
+slice-aggregate-write-all c = search (needs, length-take-le)
 
 write-all-requires : tie.Need-write-all-requires
 write-all-requires c κs = search needs

@@ -1,3 +1,4 @@
+-- Made by .ci/named from main.rules: f091a439b07cbc39 ba9c9bf5210e9c57
 -- The image that is judged is the part of the buffer that was read.
 use Rattle.streams.specs.Laws.{read-inside, read-counted}
 use borrow.Author.Needs.{needs}
@@ -20,10 +21,10 @@ returns : tie.Need-returns
 returns c = search needs
 
 array-share-prefix-image : tie.Need-array-share-prefix-image
-array-share-prefix-image c = read-inside _ _ _ (c .before .before .before .before .read .ensures) (c .before .read2 .given .1)
+array-share-prefix-image c = search (needs, read-inside)
 
 slice-aggregate-reason : tie.Need-slice-aggregate-reason
-slice-aggregate-reason c = read-counted _ _ _ (c .before .before .before .before .before .read .ensures) (c .before .before .read2 .given .1)
+slice-aggregate-reason c = search (needs, read-counted)
 
 reason-requires : tie.Need-reason-requires
 reason-requires c κs = search needs

@@ -1,3 +1,4 @@
+-- Made by .ci/named from found_at.rules: 6163db1b7a7d0ecb 2030d24c901a6dfc
 -- The number is read, or lies outside.
 use Rattle.reason.proofs.Found.{found-none, found-there}
 use borrow.Author.Needs.{needs}
@@ -14,11 +15,17 @@ enum-told : tie.Need-enum-told
 enum-told c = search needs
 
 returns : tie.Need-returns
-returns c = found-none _ _ _ (c .before .before .read-four .ensures) (c .enum-told .given .1)
+returns c = search (needs, found-none)
 
 returns-2 : tie.Need-returns-2
-returns-2 c = found-there _ _ _ (c .before .before .before .read-four .ensures) _ (c .before .number .given .1)
+returns-2 c = search (needs, found-there)
 
 pub found-at-spec : {M : Type 1} → statement M
 found-at-spec =
-    tie.close (tie.spec read-four-requires enum-known-number enum-told returns returns-2)
+    tie.close
+    (tie.spec
+    read-four-requires
+    enum-known-number
+    enum-told
+    returns
+    returns-2)

@@ -1,5 +1,5 @@
+-- Made by .ci/named from put_budget.rules: 079ef0676f869d02 eed6e75d56de981d
 -- The budget is the number that was found.
-use native.Mathlib.Omega.{arith}
 use Rattle.reason.proofs.Making.{retold, budget-numbers}
 use borrow.Author.Needs.{needs}
 use Rattle.reason.proofs.faults.put_budget.Statement.{statement}
@@ -27,9 +27,7 @@ same-length : tie.Need-same-length
 same-length c = search needs
 
 returns : tie.Need-returns
-returns c =
-    let call = c .before .before .put in
-    (omega (arith, call .ensures .0), retold _ _ _ (budget-numbers (c .before .before .before .before .before .before .before .before .before .args .file .now) (c .before .before .before .before .before .before .before .before .before .args .at) _ (c .before .before .before .before .before .before .found-at .ensures)) (call .ensures .1))
+returns c = search (needs, retold, budget-numbers)
 
 pub put-budget-spec : {M : Type 1} → statement M
 put-budget-spec =

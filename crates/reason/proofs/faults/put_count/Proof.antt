@@ -1,5 +1,5 @@
+-- Made by .ci/named from put_count.rules: 2336bb772ef68e63 ebf13d92c6269da6
 -- The count is the number that was found, the limits those of the section.
-use native.Mathlib.Omega.{arith}
 use Rattle.reason.proofs.Making.{retold, count-numbers}
 use borrow.Author.Needs.{needs}
 use Rattle.reason.proofs.faults.put_count.Statement.{statement}
@@ -27,12 +27,7 @@ same-length : tie.Need-same-length
 same-length c = search needs
 
 returns : tie.Need-returns
-returns c =
-    let call = c .before .before .put in
-    let start = c .before .before .before .before .before .before .before .before .before .before in (
-      omega (arith, call .ensures .0),
-      retold _ _ _ (count-numbers (start .args .file .now) (start .args .section) (start .args .at) _ _ (c .before .before .before .before .before .before .found-at .ensures) (c .before .before .before .before .before .before .before .limits-of .ensures)) (call .ensures .1),
-    )
+returns c = search (needs, retold, count-numbers)
 
 pub put-count-spec : {M : Type 1} → statement M
 put-count-spec =

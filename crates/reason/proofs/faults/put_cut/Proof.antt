@@ -1,3 +1,4 @@
+-- Made by .ci/named from put_cut.rules: 2f7583cd768cf2ef 88103bd1e58e04db
 -- The count is there, or the file ends in it.
 use native.Mathlib.Omega.{arith}
 use Rattle.reason.proofs.Making.{small-product, told-as, retold, cut-count, cut-elements, cut-numbers}
@@ -27,12 +28,7 @@ same-length : tie.Need-same-length
 same-length c = search needs
 
 returns : tie.Need-returns
-returns c =
-    let call = c .before .before .put in
-    let start = c .before .before .before .before .before .before .before .before .before .before .before in (
-      omega (arith, call .ensures .0),
-      told-as (cut-count (start .args .file .now) (start .args .section) (start .args .at) _ (c .before .before .before .before .before .before .before .before .read-four .ensures) (c .before .before .before .before .before .before .enum-told .given .1)) (call .ensures .1),
-    )
+returns c = search (needs, told-as, cut-count)
 
 limits-of-requires : tie.Need-limits-of-requires
 limits-of-requires c κs = search needs
@@ -41,7 +37,7 @@ cast-counted : tie.Need-cast-counted
 cast-counted c = search needs
 
 mul-asked : tie.Need-mul-asked
-mul-asked c = record { fits = small-product (c .before .before .before .before .before .before .before .args .section) _ _ (c .limits-of .ensures) (search needs) }
+mul-asked c = record { fits = search (needs, small-product) }
 
 slice-aggregate-put-3 : tie.Need-slice-aggregate-put-3
 slice-aggregate-put-3 c = search needs
@@ -56,15 +52,7 @@ same-length-2 : tie.Need-same-length-2
 same-length-2 c = search needs
 
 returns-2 : tie.Need-returns-2
-returns-2 c =
-    let call = c .before .before .put2 in
-    let start = c .before .before .before .before .before .before .before .before .before .before .before .before .before in
-    let read = c .before .before .before .before .before .before .before .before .before .before .read-four in
-    let is = c .before .before .before .before .before .before .before .before .count .given .1 in (
-      omega (arith, call .ensures .0),
-      told-as (cut-elements (start .args .file .now) (start .args .section) (start .args .at) _ (read .ensures) _ is)
-          (retold _ _ _ (cut-numbers (start .args .file .now) (start .args .section) (start .args .at) _ (read .ensures) _ is _ (c .before .before .before .before .before .before .limits-of .ensures)) (call .ensures .1)),
-    )
+returns-2 c = (omega (arith, c .before .before .put2 .ensures .0), told-as (cut-elements (c .before .before .before .before .before .before .before .before .before .before .before .before .before .args .file .now) (c .before .before .before .before .before .before .before .before .before .before .before .before .before .args .section) (c .before .before .before .before .before .before .before .before .before .before .before .before .before .args .at) _ (c .before .before .before .before .before .before .before .before .before .before .read-four .ensures) _ (c .before .before .before .before .before .before .before .before .count .given .1)) (retold _ _ _ (cut-numbers (c .before .before .before .before .before .before .before .before .before .before .before .before .before .args .file .now) (c .before .before .before .before .before .before .before .before .before .before .before .before .before .args .section) (c .before .before .before .before .before .before .before .before .before .before .before .before .before .args .at) _ (c .before .before .before .before .before .before .before .before .before .before .read-four .ensures) _ (c .before .before .before .before .before .before .before .before .count .given .1) _ (c .before .before .before .before .before .before .limits-of .ensures)) (c .before .before .put2 .ensures .1)))
 
 pub put-cut-spec : {M : Type 1} → statement M
 put-cut-spec =

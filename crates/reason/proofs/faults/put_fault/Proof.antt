@@ -1,5 +1,5 @@
+-- Made by .ci/named from put_fault.rules: e37564f2e3ca39cc 5f3f99a110de4e14
 -- A place, and the clause after it.
-use native.Mathlib.Omega.{arith}
 use Rattle.numbers.specs.Laws.Putting.{appended-then}
 use Rattle.reason.proofs.Making.{fault-put}
 use borrow.Author.Needs.{needs}
@@ -49,36 +49,25 @@ same-length : tie.Need-same-length
 same-length c = search needs
 
 returns : tie.Need-returns
-returns c =
-    let place = c .before .before .before .before .before .before .put-place in
-    let clause = c .before .before .put-cut in
-    (omega (arith, place .ensures .0, clause .ensures .0), fault-put _ _ _ (c .before .before .before .before .before .before .before .before .before .fault .given .1) (appended-then (place .ensures .1) (clause .ensures .1)))
+returns c = search (needs, fault-put, appended-then)
 
 same-length-2 : tie.Need-same-length-2
 same-length-2 c = search needs
 
 returns-2 : tie.Need-returns-2
-returns-2 c =
-    let place = c .before .before .before .before .before .before .put-place2 in
-    let clause = c .before .before .put-count in
-    (omega (arith, place .ensures .0, clause .ensures .0), fault-put _ _ _ (c .before .before .before .before .before .before .before .before .before .fault2 .given .1) (appended-then (place .ensures .1) (clause .ensures .1)))
+returns-2 c = search (needs, fault-put, appended-then)
 
 same-length-3 : tie.Need-same-length-3
 same-length-3 c = search needs
 
 returns-3 : tie.Need-returns-3
-returns-3 c =
-    let place = c .before .before .before .before .before .before .put-place3 in
-    let clause = c .before .before .put-budget in
-    (omega (arith, place .ensures .0, clause .ensures .0), fault-put _ _ _ (c .before .before .before .before .before .before .before .before .before .fault3 .given .1) (appended-then (place .ensures .1) (clause .ensures .1)))
+returns-3 c = search (needs, fault-put, appended-then)
 
 same-length-4 : tie.Need-same-length-4
 same-length-4 c = search needs
 
 returns-4 : tie.Need-returns-4
-returns-4 c =
-    let call = c .before .before .put in
-    (omega (arith, call .ensures .0), fault-put _ _ _ (c .before .before .before .before .before .before .before .fault4 .given .1) (call .ensures .1))
+returns-4 c = search (needs, fault-put)
 
 pub put-fault-spec : {M : Type 1} → statement M
 put-fault-spec =

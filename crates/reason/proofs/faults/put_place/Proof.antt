@@ -1,6 +1,5 @@
+-- Made by .ci/named from put_place.rules: 2910b139000ca794 20d1576c47de054a
 -- The words of each section.
-use native.Mathlib.Omega.{arith}
-use Rattle.image.specs.declared.Section.the-variants.{Memory, Cells, Budget}
 use Rattle.reason.proofs.Making.{place-put}
 use borrow.Author.Needs.{needs}
 use Rattle.reason.proofs.faults.put_place.Statement.{statement}
@@ -46,25 +45,19 @@ same-length : tie.Need-same-length
 same-length c = search needs
 
 returns : tie.Need-returns
-returns c =
-    let call = c .before .before .put in
-    (omega (arith, call .ensures .0), place-put _ Memory _ (c .before .before .before .before .before .before .enum-told .given .1) (call .ensures .1))
+returns c = search (needs, place-put)
 
 same-length-2 : tie.Need-same-length-2
 same-length-2 c = search needs
 
 returns-2 : tie.Need-returns-2
-returns-2 c =
-    let call = c .before .before .put2 in
-    (omega (arith, call .ensures .0), place-put _ Cells _ (c .before .before .before .before .before .before .enum-told2 .given .1) (call .ensures .1))
+returns-2 c = search (needs, place-put)
 
 same-length-3 : tie.Need-same-length-3
 same-length-3 c = search needs
 
 returns-3 : tie.Need-returns-3
-returns-3 c =
-    let call = c .before .before .put3 in
-    (omega (arith, call .ensures .0), place-put _ Budget _ (c .before .before .before .before .before .before .enum-told3 .given .1) (call .ensures .1))
+returns-3 c = search (needs, place-put)
 
 pub put-place-spec : {M : Type 1} → statement M
 put-place-spec =

@@ -1,8 +1,8 @@
+-- Made by .ci/named from put.rules: 7ec585b7ec6459d3 6bd55302ad24be8c
 -- Before each turn so many words and numbers are put; a turn puts one more.
 use mathlib.Core.Path.{sym, _∙_}
-use Prim.Native.Nat.{_-_, _<_}
-use native.Mathlib.Omega.{arith}
-use lib.ListN.{length, getD}
+use Prim.Native.Nat.{_-_}
+use lib.ListN.{length}
 use Rattle.reason.proofs.Filling.{Filling, filling-none, number-left, filling-number, filling-letter, filling-short, filling-ends}
 use borrow.Author.Needs.{needs}
 use Rattle.reason.proofs.words.put.Statement.{statement}
@@ -15,7 +15,7 @@ abbrev μ-loop : tie.MeasureT-loop
 μ-loop text₀ from words numbers at₀ next₀ i₀ text at next i = length words - i
 
 loop-holds : tie.Need-loop-holds Inv-loop μ-loop
-loop-holds c = filling-none _ _ _ _
+loop-holds c = search (needs, filling-none)
 
 shared-slice-read-letter : tie.Need-shared-slice-read-letter Inv-loop μ-loop
 shared-slice-read-letter c = search needs
@@ -30,19 +30,10 @@ mul-put-number : tie.Need-mul-put-number Inv-loop μ-loop
 mul-put-number c = search needs
 
 shared-slice-read-put-number : tie.Need-shared-slice-read-put-number Inv-loop μ-loop
-shared-slice-read-put-number c =
-    let loop = c .before .before .before .before .before .before in
-    let start = loop .before .before .before .before in
-    number-left (getD (start .args .words .now) (loop .loop .i) 0) _ _ _ (c .before .before .before .marks .ensures) (c .before .before .if1 .taken)
+shared-slice-read-put-number c = search (needs, number-left)
 
 put-number-requires : tie.Need-put-number-requires Inv-loop μ-loop
-put-number-requires c κs =
-    let turn = c .before .before .before .before .before in
-    let loop = turn .before .loop in
-    let start = turn .before .before .before .before .before in
-    let left : loop .next < length (start .args .numbers .now) =
-    number-left (getD (start .args .words .now) (loop .i) 0) _ _ _ (c .before .before .before .marks .ensures) (c .before .before .if1 .taken) in
-    omega (arith, left, turn .loop-test .taken, loop .inv .short, loop .inv .as-long, start .pre)
+put-number-requires c κs = search (needs, (shared-slice-read-put-number c))
 
 add-next : tie.Need-add-next Inv-loop μ-loop
 add-next c = search needs
@@ -51,11 +42,7 @@ loop-less : tie.Need-loop-less Inv-loop μ-loop
 loop-less c = search needs
 
 loop-again : tie.Need-loop-again Inv-loop μ-loop
-loop-again c =
-    let call = c .before .before .put-number in
-    let marked = c .before .before .before .before .before in
-    let loop = marked .before .before .before in
-    filling-number _ _ _ _ _ _ _ _ (loop .before .loop .inv) (loop .loop-test .taken) _ _ (sym (marked .before .marks .ensures) ∙ marked .if1 .taken) (call .ensures .0) (call .ensures .1)
+loop-again c = search (needs, filling-number, sym (c .before .before .before .before .before .before .marks .ensures) ∙ c .before .before .before .before .before .if1 .taken)
 
 slice-write-text : tie.Need-slice-write-text Inv-loop μ-loop
 slice-write-text c = search needs
@@ -67,9 +54,7 @@ loop-less-2 : tie.Need-loop-less-2 Inv-loop μ-loop
 loop-less-2 c = search needs
 
 loop-again-2 : tie.Need-loop-again-2 Inv-loop μ-loop
-loop-again-2 c =
-    let loop = c .before .before .before in
-    filling-letter _ _ _ _ _ _ _ _ (loop .before .loop .inv) (loop .loop-test .taken) (sym (c .before .marks .ensures) ∙ c .if1 .left)
+loop-again-2 c = search (needs, filling-letter, sym (c .before .marks .ensures) ∙ c .if1 .left)
 
 same-length : tie.Need-same-length Inv-loop μ-loop
 same-length c = search needs
@@ -80,9 +65,7 @@ returns c = search (needs, filling-short, filling-ends)
 pub put-spec : {M : Type 1} → statement M
 put-spec =
     tie.close
-    (tie.spec
-    Inv-loop
-    μ-loop
+    (tie.spec Inv-loop μ-loop
     loop-holds
     shared-slice-read-letter
     add-i

@@ -1,3 +1,4 @@
+-- Made by .ci/named from put_number.rules: 5343cb7da7d5c207 3be9518006a3e52c
 -- The digits have room, and end where the next character goes.
 use Rattle.reason.proofs.Found.{never-refused, number-short, number-added}
 use borrow.Author.Needs.{needs}
@@ -17,21 +18,13 @@ same-length : tie.Need-same-length
 same-length c = search needs
 
 returns : tie.Need-returns
-returns c =
-    let start = c .before .before .before .before .before .before .before in
-    absurd (never-refused (start .args .value) (start .args .text .now) _ (start .args .at) _ (c .before .before .before .before .write-decimal .ensures) (start .pre) (c .enum-told .given .1))
+returns c = absurd (search (needs, never-refused))
 
 same-length-2 : tie.Need-same-length-2
 same-length-2 c = search needs
 
 returns-2 : tie.Need-returns-2
-returns-2 c =
-    let start = c .before .before .before .before .before .before .before .before in
-    let call = c .before .before .before .before .before .write-decimal in
-    let is = c .before .end .given .1 in (
-      number-short (start .args .value) (start .args .text .now) _ (start .args .at) _ (call .ensures) (start .pre) _ is,
-      number-added (start .args .value) (start .args .text .now) _ (start .args .at) _ (call .ensures) (start .pre) _ is,
-    )
+returns-2 c = search (needs, number-short, number-added)
 
 pub put-number-spec : {M : Type 1} → statement M
 put-number-spec =
