@@ -5,7 +5,7 @@ use Prim.Native.Nat.{ℕ, _^_, _≤_, _<_}
 use native.Mathlib.Omega.{arith}
 use lib.ListN.{length, drop}
 use lib.Seq.{sets-eq, drop-length}
-use Rattle.plain.specs.Answer.{Answer, refuses, gives}
+use Rattle.plain.specs.Answer.{Answer, refuses}
 use Rattle.numbers.specs.Bytes.{bytesOf}
 use Rattle.numbers.specs.Slices.{Wrote, writeAt}
 use Rattle.numbers.specs.Laws.Bytes.{length-bytes}

@@ -3,7 +3,7 @@ use mathlib.Core.List.{List, [], _∷_, _++_}
 use mathlib.Core.Path.{_≡_, refl}
 use Prim.Native.Nat.{ℕ}
 use Rattle.numbers.specs.Lists.{listAt}
-use Rattle.image.specs.Judging.{Finding, fails, spanAt, endJudged, judgedOf}
+use Rattle.image.specs.Judging.{fails, spanAt, endJudged, judgedOf}
 use Rattle.image.specs.declared.Section.the-variants as section
 use Rattle.image.specs.declared.Fault.the-variants as fault
 

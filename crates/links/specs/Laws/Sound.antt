@@ -1,6 +1,6 @@
 -- What the test `linked` says, as facts that a proof can use.
 use mathlib.Core.Bool.{true}
-use mathlib.Core.Path.{_≡_, subst⁻¹}
+use mathlib.Core.Path.{_≡_}
 use Prim.Native.Nat.{ℕ, zero, suc, _<_, _≤_}
 use lib.Dec.{T, ltb, leb, leb→le, le→leb, ltb→lt, lt→ltb}
 use Rattle.plain.specs.Laws.Choice.{both-parts, both-hold, is-true}
@@ -78,9 +78,6 @@ linked-of l h =
     (both-hold (rises (copyOfS (l .levels)) (l .s) (l .e)) _ (rises-of (copyOfS (l .levels)) (l .s) (l .e) (h .subroutines-rise))
     (of-within (copyOfP (l .levels)) mostCopyOfP (l .e) (h .depths-within))))))
 
--- both once more, for a test that is known by an equation
+-- the same as an equation
 pub linked-true : (l : Links) → Sound l → linked l ≡ true
 linked-true l h = is-true (linked l) (linked-of l h)
-
-pub sound-of-true : (l : Links) → linked l ≡ true → Sound l
-sound-of-true l e = sound l (subst⁻¹ T e tt)

@@ -37,13 +37,6 @@ pub data Gone (o : Links) (p : ℕ) (l : Links) : Act → Type 0 where
   by-pop : Restored o (act pop l) → Gone o p l pop
   by-throw : Restored o (act throw l) → thrownP l ≡ suc p → Gone o p l throw
 
--- E is then no higher than it was
-pub gone-down : {o l : Links} {p : ℕ} (a : Act) → Gone o p l a → act a l .e ≤ o .e
-gone-down a by-reset = omega arith
-gone-down a (by-exit h) = omega (arith, h .same-e)
-gone-down a (by-pop h) = omega (arith, h .same-e)
-gone-down a (by-throw h q) = omega (arith, h .same-e)
-
 -- what two lists that agree on the first n elements hold there
 same-at : {A : Type 0} (xs ys : List A) (n : ℕ) → take n xs ≡ take n ys → (i : ℕ) (d : A) → i < n → getD xs i d ≡ getD ys i d
 same-at xs ys n e i d h = sym (getD-take n xs i d h) ∙ ap (λ zs. getD zs i d) e ∙ getD-take n ys i d h
