@@ -21,7 +21,8 @@ enum {
     GLIDECOTTON_STATE = 3528,          /* bytes of a state */
     GLIDECOTTON_RESULT = 24,           /* bytes of a run's result */
     GLIDECOTTON_READ_RESULT = 8,       /* bytes of the reader's result */
-    GLIDECOTTON_STACK = 16384          /* bytes of stack that are enough for a call: hosts/c/check measures it */
+    GLIDECOTTON_STACK = 16384          /* bytes of stack that are enough for a call: hosts/c/check measures it; on Arm a run took
+                                          13,760, a bench 7,840 and a read 3,632 at the most */
 };
 
 /* Where a state has what. All zeros are a fresh machine. A cell, an address, the counter and the flag take 4 bytes, a pointer or

@@ -12,7 +12,7 @@ pub record Untouched (before after : List ℕ) (returned : Returned) (answer : �
   pub memory : after ≡ before
   pub refusal : returned ≡ refusedWith answer
 
--- an image that spells the file, and is what was read
+-- an image that the file spells, and that is what was read
 pub record Spelled (file after : List ℕ) (returned : Returned) : Type 0 where
   pub image : Image
   pub spellable : Spellable image

@@ -6,7 +6,7 @@ pub mod Two
 pub mod Three
 -- demands 1 and 2 said of images
 pub mod Images
--- a state that a run hands back is taken by the next
+-- a state that a run hands back, its answer not 2, is taken by the next
 pub mod Handed
 -- any number of runs is one history, and demand 3 holds over it
 pub mod Sessions

@@ -6,7 +6,7 @@ use Rattle.links.specs.Depths.{localsCount}
 use Rattle.links.specs.Linked.{frameAt, levelAt}
 use Rattle.links.specs.declared.Links.{Links}
 
--- a call with this return address leads from o to l: it stands in a new return cell and in a new subroutine level, with R as it was;
+-- a call with this return address leads from o to l: the address stands in a new return cell and in a new subroutine level, with R as it was;
 -- the level has 16 locals, all zero
 pub record Called (address : ℕ) (o l : Links) : Type 0 where
   pub one-cell : l .r ≡ suc (o .r)

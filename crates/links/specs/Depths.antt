@@ -18,7 +18,7 @@ exceptionsDepth = 8
 abbrev pub mostCopyOfP : ℕ
 mostCopyOfP = cellsDepth - 1
 
--- levels 0 to S and 0 to E: one more than the depths
+-- level 0 is there too: one more than the depths
 abbrev pub framesCount : ℕ
 framesCount = suc subroutinesDepth
 

@@ -20,7 +20,7 @@ use Rattle.machine.specs.declared.Width.{Width}
 use Rattle.machine.specs.declared.Place.{Place}
 use Rattle.machine.specs.declared.Place.the-variants.{Memory, Local, Cell, Nowhere}
 
--- what an instruction finds missing, besides cells and room on the stacks
+-- what an instruction finds missing, besides parameter cells and what its action needs (Checks.antt)
 pub data Lack : Type 0 where
   nothing : Lack
   -- a return cell to read; a place in memory or a listed cell at its address; a divisor that is not zero

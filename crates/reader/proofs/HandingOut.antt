@@ -32,13 +32,13 @@ refused-untouched file before after h number (wrong-memory other) e =
 refused-untouched file before after h number (not-spelled long none) e =
     let same : 14 ≡ number = cc in
     (subst (λ (n : ℕ). Read file before before (refusedWith n)) same (not-spelled long none), λ i. before)
-refused-untouched file before after h number (read i long allowed spells) e = absurd (let z : _≡_ {A = ℕ} 0 1 = cc in omega arith)
+refused-untouched file before after h number (read i long spellable spells) e = absurd (let z : _≡_ {A = ℕ} 0 1 = cc in omega arith)
 
 budget-low : (file before after : List ℕ) (h : loading.Returned) → Read file before after h → h .budget ≤ mostBudget
 unfolding refusedWith loadedFrom
 budget-low file before after h (wrong-memory other) = omega arith
 budget-low file before after h (not-spelled long none) = omega arith
-budget-low file before after h (read i long allowed spells) = allowed .budget-low
+budget-low file before after h (read i long spellable spells) = spellable .budget-low
 
 -- the budget fills the result
 budget-written : (budget : ℕ) (before : List ℕ) (w : Wrote) → length before ≡ beside .width → w ≡ writeAt 8 budget before 0

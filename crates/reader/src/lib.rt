@@ -7,7 +7,7 @@ const RESULT_BUDGET: usize = 0;
 
 const RESULT: usize = RESULT_BUDGET + 8;
 
-// Reads an image into the lent memory, and hands out the machine and the budget. The two buffers that it fills are measured
+// Reads an image into the lent memory, and hands out the machine and the budget. State and result are measured
 // first and the file is judged whole, so that only a call that answers 0 touches anything.
 #[no_mangle]
 pub extern "C" fn glidecotton_read_image(

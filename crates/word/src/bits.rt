@@ -6,28 +6,28 @@ use crate::Changed;
 use crate::Outcome;
 
 // AND ( x y -- z )
-pub fn and_bits(x: u32, y: u32, flag: u32) -> Outcome
+pub(crate) fn and_bits(x: u32, y: u32, flag: u32) -> Outcome
     ensures { λ r. ⌜ saysOutcome r ≡ saysOutcome (andBitsOf x y flag) ⌝ }
 {
     Outcome::Single(x & y, flag)
 }
 
 // OR ( x y -- z )
-pub fn or_bits(x: u32, y: u32, flag: u32) -> Outcome
+pub(crate) fn or_bits(x: u32, y: u32, flag: u32) -> Outcome
     ensures { λ r. ⌜ saysOutcome r ≡ saysOutcome (orBitsOf x y flag) ⌝ }
 {
     Outcome::Single(x | y, flag)
 }
 
 // INVERT ( x -- z )
-pub fn invert(x: u32, flag: u32) -> Changed
+pub(crate) fn invert(x: u32, flag: u32) -> Changed
     ensures { λ r. ⌜ r ≡ invertOf x flag ⌝ }
 {
     Changed { value: !x, flag }
 }
 
 // XOR ( x y -- z )
-pub fn xor_bits(x: u32, y: u32, flag: u32) -> Outcome
+pub(crate) fn xor_bits(x: u32, y: u32, flag: u32) -> Outcome
     ensures { λ r. ⌜ saysOutcome r ≡ saysOutcome (xorBitsOf x y flag) ⌝ }
 {
     Outcome::Single(x ^ y, flag)

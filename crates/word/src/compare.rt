@@ -27,70 +27,70 @@ fn told(holds: bool, flag: u32) -> Changed
 }
 
 // = ( x y -- truth )
-pub fn equal(x: u32, y: u32, flag: u32) -> Outcome
+pub(crate) fn equal(x: u32, y: u32, flag: u32) -> Outcome
     ensures { λ r. ⌜ saysOutcome r ≡ saysOutcome (equalOf x y flag) ⌝ }
 {
     Outcome::Single(truth(x == y), flag)
 }
 
 // <> ( x y -- truth )
-pub fn unequal(x: u32, y: u32, flag: u32) -> Outcome
+pub(crate) fn unequal(x: u32, y: u32, flag: u32) -> Outcome
     ensures { λ r. ⌜ saysOutcome r ≡ saysOutcome (unequalOf x y flag) ⌝ }
 {
     Outcome::Single(truth(x != y), flag)
 }
 
 // < ( x y -- truth )
-pub fn less(x: u32, y: u32, flag: u32) -> Outcome
+pub(crate) fn less(x: u32, y: u32, flag: u32) -> Outcome
     ensures { λ r. ⌜ saysOutcome r ≡ saysOutcome (lessOf x y flag) ⌝ }
 {
     Outcome::Single(truth(is_less(x, y)), flag)
 }
 
 // > ( x y -- truth )
-pub fn greater(x: u32, y: u32, flag: u32) -> Outcome
+pub(crate) fn greater(x: u32, y: u32, flag: u32) -> Outcome
     ensures { λ r. ⌜ saysOutcome r ≡ saysOutcome (greaterOf x y flag) ⌝ }
 {
     less(y, x, flag)
 }
 
 // U< ( x y -- truth )
-pub fn below(x: u32, y: u32, flag: u32) -> Outcome
+pub(crate) fn below(x: u32, y: u32, flag: u32) -> Outcome
     ensures { λ r. ⌜ saysOutcome r ≡ saysOutcome (belowOf x y flag) ⌝ }
 {
     Outcome::Single(truth(x < y), flag)
 }
 
 // U> ( x y -- truth )
-pub fn above(x: u32, y: u32, flag: u32) -> Outcome
+pub(crate) fn above(x: u32, y: u32, flag: u32) -> Outcome
     ensures { λ r. ⌜ saysOutcome r ≡ saysOutcome (aboveOf x y flag) ⌝ }
 {
     below(y, x, flag)
 }
 
 // 0= ( x -- truth )
-pub fn zero_equal(x: u32, flag: u32) -> Changed
+pub(crate) fn zero_equal(x: u32, flag: u32) -> Changed
     ensures { λ r. ⌜ r ≡ zeroEqualOf x flag ⌝ }
 {
     told(x == 0, flag)
 }
 
 // 0<> ( x -- truth )
-pub fn zero_unequal(x: u32, flag: u32) -> Changed
+pub(crate) fn zero_unequal(x: u32, flag: u32) -> Changed
     ensures { λ r. ⌜ r ≡ zeroUnequalOf x flag ⌝ }
 {
     told(x != 0, flag)
 }
 
 // 0< ( x -- truth )
-pub fn zero_less(x: u32, flag: u32) -> Changed
+pub(crate) fn zero_less(x: u32, flag: u32) -> Changed
     ensures { λ r. ⌜ r ≡ zeroLessOf x flag ⌝ }
 {
     told(is_less(x, 0), flag)
 }
 
 // 0> ( x -- truth )
-pub fn zero_greater(x: u32, flag: u32) -> Changed
+pub(crate) fn zero_greater(x: u32, flag: u32) -> Changed
     ensures { λ r. ⌜ r ≡ zeroGreaterOf x flag ⌝ }
 {
     told(is_less(0, x), flag)

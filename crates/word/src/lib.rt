@@ -9,38 +9,8 @@ mod shifts;
 mod sums;
 mod truth;
 
-pub use bits::and_bits;
-pub use bits::invert;
-pub use bits::or_bits;
-pub use bits::xor_bits;
-pub use compare::above;
-pub use compare::below;
-pub use compare::equal;
-pub use compare::greater;
-pub use compare::less;
-pub use compare::unequal;
-pub use compare::zero_equal;
-pub use compare::zero_greater;
-pub use compare::zero_less;
-pub use compare::zero_unequal;
 pub use dispatch::one_cell;
 pub use dispatch::two_cells;
-pub use products::multiply_signed;
-pub use products::multiply_unsigned;
-pub use quotients::divide_signed;
-pub use quotients::divide_unsigned;
-pub use shifts::extend_byte;
-pub use shifts::extend_word;
-pub use shifts::halve;
-pub use shifts::shift_left;
-pub use shifts::shift_right;
-pub use sums::add_extended;
-pub use sums::decrement;
-pub use sums::increment;
-pub use sums::minus;
-pub use sums::negate;
-pub use sums::plus;
-pub use sums::subtract_extended;
 
 // Half the range of a cell: a cell that is not below it holds an integer below zero.
 pub(crate) const HALF: u32 = 0x8000_0000;

@@ -14,7 +14,7 @@ fn if_negative(x: u32, other: u32) -> u32
 }
 
 // MULTS ( x y -- low high ): the unsigned product, with each factor taken off the high cell where the other is negative.
-pub fn multiply_signed(x: u32, y: u32, flag: u32) -> Outcome
+pub(crate) fn multiply_signed(x: u32, y: u32, flag: u32) -> Outcome
     ensures { λ r. ⌜ saysOutcome r ≡ saysOutcome (multiplySignedOf x y flag) ⌝ }
 {
     let product = x as u64 * y as u64;
@@ -26,7 +26,7 @@ pub fn multiply_signed(x: u32, y: u32, flag: u32) -> Outcome
 }
 
 // MULTU ( x y -- low high )
-pub fn multiply_unsigned(x: u32, y: u32, flag: u32) -> Outcome
+pub(crate) fn multiply_unsigned(x: u32, y: u32, flag: u32) -> Outcome
     ensures { λ r. ⌜ saysOutcome r ≡ saysOutcome (multiplyUnsignedOf x y flag) ⌝ }
 {
     let product = x as u64 * y as u64;

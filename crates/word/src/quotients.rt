@@ -32,7 +32,7 @@ fn differ(a: bool, b: bool) -> bool
 }
 
 // DIVS ( x y -- remainder quotient ): magnitudes are divided, so the quotient is cut toward zero.
-pub fn divide_signed(x: u32, y: u32, flag: u32) -> Outcome
+pub(crate) fn divide_signed(x: u32, y: u32, flag: u32) -> Outcome
     ensures { λ r. ⌜ saysOutcome r ≡ saysOutcome (divideSignedOf x y flag) ⌝ }
 {
     if y == 0 {
@@ -49,7 +49,7 @@ pub fn divide_signed(x: u32, y: u32, flag: u32) -> Outcome
 }
 
 // DIVU ( x y -- remainder quotient )
-pub fn divide_unsigned(x: u32, y: u32, flag: u32) -> Outcome
+pub(crate) fn divide_unsigned(x: u32, y: u32, flag: u32) -> Outcome
     ensures { λ r. ⌜ saysOutcome r ≡ saysOutcome (divideUnsignedOf x y flag) ⌝ }
 {
     if y == 0 {

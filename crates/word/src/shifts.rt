@@ -5,7 +5,7 @@ use crate::Changed;
 use crate::HALF;
 
 // 2/ ( x -- z ): the top bit stays where it is.
-pub fn halve(x: u32, flag: u32) -> Changed
+pub(crate) fn halve(x: u32, flag: u32) -> Changed
     ensures { λ r. ⌜ r ≡ halveOf x flag ⌝ }
 {
     let sign = x / HALF;
@@ -16,7 +16,7 @@ pub fn halve(x: u32, flag: u32) -> Changed
 }
 
 // LSL ( x -- z )
-pub fn shift_left(x: u32, flag: u32) -> Changed
+pub(crate) fn shift_left(x: u32, flag: u32) -> Changed
     ensures { λ r. ⌜ r ≡ shiftLeftOf x flag ⌝ }
 {
     Changed {
@@ -26,14 +26,14 @@ pub fn shift_left(x: u32, flag: u32) -> Changed
 }
 
 // LSR ( x -- z )
-pub fn shift_right(x: u32, flag: u32) -> Changed
+pub(crate) fn shift_right(x: u32, flag: u32) -> Changed
     ensures { λ r. ⌜ r ≡ shiftRightOf x flag ⌝ }
 {
     Changed { value: x / 2, flag }
 }
 
 // XBYTE ( x -- z ): half the byte's range added, wrapped and taken off again.
-pub fn extend_byte(x: u32, flag: u32) -> Changed
+pub(crate) fn extend_byte(x: u32, flag: u32) -> Changed
     ensures { λ r. ⌜ r ≡ extendByteOf x flag ⌝ }
 {
     let turned = (x % 0x100 + 0x80) % 0x100;
@@ -44,7 +44,7 @@ pub fn extend_byte(x: u32, flag: u32) -> Changed
 }
 
 // XWORD ( x -- z ): the same with the range of two bytes.
-pub fn extend_word(x: u32, flag: u32) -> Changed
+pub(crate) fn extend_word(x: u32, flag: u32) -> Changed
     ensures { λ r. ⌜ r ≡ extendWordOf x flag ⌝ }
 {
     let turned = (x % 0x1_0000 + 0x8000) % 0x1_0000;

@@ -28,7 +28,7 @@ fn difference(x: u32, off: u32) -> Changed
 }
 
 // + ( x y -- x+y )
-pub fn plus(x: u32, y: u32, flag: u32) -> Outcome
+pub(crate) fn plus(x: u32, y: u32, flag: u32) -> Outcome
     ensures { λ r. ⌜ saysOutcome r ≡ saysOutcome (plusOf x y flag) ⌝ }
 {
     let whole = sum(x, y);
@@ -36,7 +36,7 @@ pub fn plus(x: u32, y: u32, flag: u32) -> Outcome
 }
 
 // - ( x y -- x-y )
-pub fn minus(x: u32, y: u32, flag: u32) -> Outcome
+pub(crate) fn minus(x: u32, y: u32, flag: u32) -> Outcome
     ensures { λ r. ⌜ saysOutcome r ≡ saysOutcome (minusOf x y flag) ⌝ }
 {
     let rest = difference(x, y);
@@ -44,28 +44,28 @@ pub fn minus(x: u32, y: u32, flag: u32) -> Outcome
 }
 
 // NEGATE ( x -- 0-x )
-pub fn negate(x: u32, flag: u32) -> Changed
+pub(crate) fn negate(x: u32, flag: u32) -> Changed
     ensures { λ r. ⌜ r ≡ negateOf x flag ⌝ }
 {
     difference(0, x)
 }
 
 // 1+ ( x -- x+1 )
-pub fn increment(x: u32, flag: u32) -> Changed
+pub(crate) fn increment(x: u32, flag: u32) -> Changed
     ensures { λ r. ⌜ r ≡ incrementOf x flag ⌝ }
 {
     sum(x, 1)
 }
 
 // 1- ( x -- x-1 )
-pub fn decrement(x: u32, flag: u32) -> Changed
+pub(crate) fn decrement(x: u32, flag: u32) -> Changed
     ensures { λ r. ⌜ r ≡ decrementOf x flag ⌝ }
 {
     difference(x, 1)
 }
 
 // ADDX ( x y -- x+y+flag ): either of the two additions may carry.
-pub fn add_extended(x: u32, y: u32, flag: u32) -> Outcome
+pub(crate) fn add_extended(x: u32, y: u32, flag: u32) -> Outcome
     ensures { λ r. ⌜ saysOutcome r ≡ saysOutcome (addExtendedOf x y flag) ⌝ }
 {
     let cells = sum(x, y);
@@ -74,7 +74,7 @@ pub fn add_extended(x: u32, y: u32, flag: u32) -> Outcome
 }
 
 // SUBX ( x y -- x-y-flag ): either of the two subtractions may borrow.
-pub fn subtract_extended(x: u32, y: u32, flag: u32) -> Outcome
+pub(crate) fn subtract_extended(x: u32, y: u32, flag: u32) -> Outcome
     ensures { λ r. ⌜ saysOutcome r ≡ saysOutcome (subtractExtendedOf x y flag) ⌝ }
 {
     let cells = difference(x, y);

@@ -1,4 +1,4 @@
--- A state that a run hands back is whole, and where its answer was not 2 it is never refused by the next run.
+-- A state that a run hands back is whole, and where its answer was not 2 the next run accepts it, with its memory and a budget within the limit.
 use mathlib.Core.Path.{_≡_, refl, sym, _∙_, subst}
 use mathlib.Core.Bool.{Bool, true, false}
 use mathlib.Core.List.{List}

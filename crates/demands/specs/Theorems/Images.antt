@@ -20,7 +20,7 @@ refused-image (wrong-memory h) answer e = record { memory = refl; refusal = cc }
 refused-image (not-spelled h n) answer e = record { memory = refl; refusal = cc }
 refused-image (read i h a s) answer e = let z : _≡_ {A = ℕ} 0 1 = cc in absurd (omega arith)
 
--- Demand 2: a file is accepted exactly when some image spells it, and that image is what is read.
+-- Demand 2: a file is accepted exactly when it spells some image, and that image is what is read.
 pub accepted-is-spelled : {file before after : List ℕ} {returned : Returned} → Read file before after returned → returned .says ≡ gives tt →
     Spelled file after returned
 unfolding refusedWith

@@ -22,7 +22,7 @@ refusal-not-zero : (file before after : List ℕ) (h : loading.Returned) (number
 unfolding refusedWith loadedFrom
 refusal-not-zero file before after h number (wrong-memory other) e zero = let z : _≡_ {A = ℕ} 2 0 = cc in omega arith
 refusal-not-zero file before after h number (not-spelled long none) e zero = let z : _≡_ {A = ℕ} 14 0 = cc in omega arith
-refusal-not-zero file before after h number (loading.read i long allowed spells) e zero = let z : _≡_ {A = ℕ} 0 1 = cc in omega arith
+refusal-not-zero file before after h number (loading.read i long spellable spells) e zero = let z : _≡_ {A = ℕ} 0 1 = cc in omega arith
 
 module _ (image memory state result : List ℕ) (budget : ℕ) (counts : List ℕ) where
   pub read-then-run : (a b : Lent) → Reads image memory state result a → a .number ≡ 0 → length counts ≡ layout.result .width

@@ -1,4 +1,4 @@
--- What is spelled is judged good: of every spellable image, and the image is found in its file's spans.
+-- The file of every spellable image is judged good, and the image is found in its spans.
 use mathlib.Core.List.{List, [], _++_, append-assoc, append-nil}
 use mathlib.Core.Path.{_≡_, refl, sym, ap, _∙_}
 use Prim.Native.Nat.{ℕ, _+_, _*_, _≤_}

@@ -1,4 +1,4 @@
--- What is judged good is spelled: the image that stands in its spans is spellable and spells the whole file.
+-- What is judged good spells an image: the one that stands in its spans is spellable, and the whole file is its spelling.
 use mathlib.Core.Bool.{Bool, true, false}
 use mathlib.Core.List.{List, [], _++_, append-nil}
 use mathlib.Core.Path.{_≡_, refl, sym, ap, subst, _∙_}

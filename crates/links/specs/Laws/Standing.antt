@@ -37,7 +37,7 @@ caught o address p f h ok =
     }
 
 module _ (o : Links) (p : ℕ) (l : Links) (h : Stands o p l) where
-  -- after one more action that is not refused it stands still, or it is gone
+  -- after one more action that is not refused it still stands, or it is gone
   pub next : (a : Act) → Allowed a l → Stands o p (act a l) ⊎ Gone o p l a
   next still ok = inl h
   next (push x) ok =

@@ -1,4 +1,4 @@
--- What was read so far lies in the buffer, and each turn leaves less of it.
+-- What was read so far lies in the buffer, and each pass leaves less of it.
 use borrow.Author.Needs.{needs}
 use mathlib.Core.Path.{_≡_}
 use Prim.Native.Nat.{_-_, _≤_}

@@ -1,5 +1,5 @@
--- Made by .ci/named from put.rules: 7ec585b7ec6459d3 6bd55302ad24be8c
--- Before each turn so many words and numbers are put; a turn puts one more.
+-- Made by .ci/named from put.rules: c91334f804ab9ceb adf343cc4eb3856d
+-- Before each pass so many words and numbers are put; a pass puts one more.
 use mathlib.Core.Path.{sym, _∙_}
 use Prim.Native.Nat.{_-_}
 use lib.ListN.{length}
