@@ -5,7 +5,7 @@ use Prim.Native.Nat.{ℕ, zero, suc, _+_, _*_, _/_, _%_, _^_, _≤_, _<_}
 use native.Mathlib.Nat.{add-zero, suc-add, zero-add, div-one, mod-eq-of-lt}
 use native.Mathlib.Omega.{arith}
 use lib.ListN.{length, take, drop, length-drop, List·getD-append}
-use lib.Seq.{take-suc, getD-append-add, getD-drop, getD-take}
+use lib.Seq.{take-suc, getD-append-add, getD-drop}
 use Rattle.numbers.specs.Bytes.{byteAt, numberAt, bytesOf}
 use Rattle.numbers.specs.Laws.Powers.{power-suc, div-power, mod-last}
 
@@ -63,16 +63,6 @@ number-after n p l a =
     (λ i less.
     let e : length p + a + i ≡ length p + (a + i) = omega arith in
     ap (byteAt (p ++ l)) e ∙ getD-append-add p l (a + i) 0)
-
-pub number-drop : (n k : ℕ) (l : List ℕ) (a : ℕ) → numberAt n (drop k l) a ≡ numberAt n l (k + a)
-number-drop n k l a =
-    same-number n (drop k l) l a (k + a)
-    (λ i less.
-    let e : k + (a + i) ≡ k + a + i = omega arith in
-    getD-drop k l (a + i) 0 ∙ ap (byteAt l) e)
-
-pub number-take : (n k : ℕ) (l : List ℕ) (a : ℕ) → a + n ≤ k → numberAt n (take k l) a ≡ numberAt n l a
-number-take n k l a h = same-number n (take k l) l a a (λ i less. getD-take k l (a + i) 0 (omega arith))
 
 -- ---- what is spelled is read
 

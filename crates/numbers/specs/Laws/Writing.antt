@@ -1,13 +1,13 @@
--- Laws of numbers that are written: what is then read there, and what stays elsewhere.
+-- Laws of numbers that are written: what is then read there.
 use mathlib.Core.List.{List, [], _∷_, _++_, append-assoc}
-use mathlib.Core.Path.{_≡_, refl, sym, ap, _∙_}
-use Prim.Native.Nat.{ℕ, suc, _+_, _*_, _/_, _%_, _^_, _≤_, _<_}
-use native.Mathlib.Nat.{add-zero, mod-eq-of-lt}
+use mathlib.Core.Path.{_≡_, sym, ap, _∙_}
+use Prim.Native.Nat.{ℕ, suc, _+_, _*_, _/_, _%_, _^_, _≤_}
+use native.Mathlib.Nat.{add-zero}
 use native.Mathlib.Omega.{arith}
 use lib.ListN.{length, take, drop, set}
-use lib.Seq.{sets, sets-eq, set-comm, getD-set-other, length-take-le}
-use Rattle.numbers.specs.Bytes.{byteAt, numberAt, bytesOf}
-use Rattle.numbers.specs.Laws.Bytes.{length-bytes, bytes-parts, bytes-low, same-number, number-read}
+use lib.Seq.{sets, sets-eq, set-comm, length-take-le}
+use Rattle.numbers.specs.Bytes.{numberAt, bytesOf}
+use Rattle.numbers.specs.Laws.Bytes.{length-bytes, bytes-parts, bytes-low, number-read}
 
 -- elements stored from a place on, then more after them
 pub sets-append : (xs ys l : List ℕ) (a : ℕ) → sets l a (xs ++ ys) ≡ sets (sets l a xs) (a + length xs) ys
@@ -41,27 +41,3 @@ read-written n v l a h =
     let long : length (bytesOf n v) ≡ n = length-bytes n v in
     ap (λ (m : List ℕ). numberAt n m a) (sets-eq (bytesOf n v) l a (omega arith) ∙ append-assoc (take a l) (bytesOf n v) (drop (a + length (bytesOf n v)) l))
     ∙ number-read n v (take a l) (drop (a + length (bytesOf n v)) l) a (length-take-le a l (omega arith))
-
-pub read-written-whole : (n v : ℕ) (l : List ℕ) (a : ℕ) → a + n ≤ length l → v < 2 ^ (8 * n) → numberAt n (sets l a (bytesOf n v)) a ≡ v
-read-written-whole n v l a h fits = read-written n v l a h ∙ mod-eq-of-lt fits
-
--- a byte before the place, and one after what was stored
-pub kept-before : (vs l : List ℕ) (a i : ℕ) → i < a → byteAt (sets l a vs) i ≡ byteAt l i
-kept-before [] l a i h = refl
-kept-before (v ∷ vs) l a i h =
-    kept-before vs (set l a v) (suc a) i (omega arith) ∙ getD-set-other l a i v 0 (λ (e : i ≡ a). omega arith)
-
-pub kept-after : (vs l : List ℕ) (a i : ℕ) → a + length vs ≤ i → byteAt (sets l a vs) i ≡ byteAt l i
-kept-after [] l a i h = refl
-kept-after (v ∷ vs) l a i h =
-    kept-after vs (set l a v) (suc a) i (omega arith) ∙ getD-set-other l a i v 0 (λ (e : i ≡ a). omega arith)
-
--- a number that ends before the place, and one that starts after what was written
-pub number-before : (n m v : ℕ) (l : List ℕ) (a b : ℕ) → b + m ≤ a → numberAt m (sets l a (bytesOf n v)) b ≡ numberAt m l b
-number-before n m v l a b h =
-    same-number m (sets l a (bytesOf n v)) l b b (λ i less. kept-before (bytesOf n v) l a (b + i) (omega arith))
-
-pub number-behind : (n m v : ℕ) (l : List ℕ) (a b : ℕ) → a + n ≤ b → numberAt m (sets l a (bytesOf n v)) b ≡ numberAt m l b
-number-behind n m v l a b h =
-    let long : length (bytesOf n v) ≡ n = length-bytes n v in
-    same-number m (sets l a (bytesOf n v)) l b b (λ i less. kept-after (bytesOf n v) l a (b + i) (omega arith))
