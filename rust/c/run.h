@@ -111,9 +111,9 @@ static struct outcome run(struct machine *m, uint8_t *mem, uint64_t budget) {
         }
         case 0x0E: BINARY(SECOND + TOP); flag = TOP < param[p]; break;
         case 0x0F: { TAKES(2); uint32_t a = SECOND, b = TOP; p--; TOP = a - b; flag = a < b; break; }
-        case 0x10: UNARY(0u - TOP); flag = TOP != 0; break;
-        case 0x11: UNARY(TOP + 1); flag = TOP == 0; break;
-        case 0x12: UNARY(TOP - 1); flag = TOP == 0xFFFFFFFFu; break;
+        case 0x10: UNARY(0u - TOP); break;
+        case 0x11: UNARY(TOP + 1); break;
+        case 0x12: UNARY(TOP - 1); break;
         case 0x13: UNARY((uint32_t)((int32_t)TOP >> 1)); break;
         case 0x14: {
             TAKES(2);

@@ -132,13 +132,13 @@ const SMALL: &str = "LOAD.B 5  LOAD.B 7  +  DUP  LOAD.W $4000  STORE.L  JSL word
 mod tests {
     use super::*;
     use crate::model::bench::bench;
-    use crate::model::run::{Levels, Observer};
+    use crate::model::run::{Observer, Seen};
     use crate::model::state::{Answer, MEMORY};
 
     struct Counts([u64; 256]);
 
     impl Observer for Counts {
-        fn completed(&mut self, code: u8, _: Levels, _: Levels) {
+        fn completed(&mut self, code: u8, _: Seen, _: Seen) {
             self.0[usize::from(code)] += 1;
         }
     }

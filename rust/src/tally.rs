@@ -4,15 +4,20 @@ use std::collections::BTreeMap;
 use std::fmt;
 
 use crate::model::codes::{known_codes, row_of, Op};
-use crate::model::run::{Levels, Observer};
+use crate::model::run::{Observer, Seen};
 use crate::model::state::Answer;
 
-/// Each code, answer and way of losing a level is to be seen at least so often.
+/// Each code, answer, way of losing a level and flag before a sum or difference is to be seen at least so often.
 const LEAST: u64 = 500;
 /// Half of the programs run for at least so many steps.
 const LEAST_MEDIAN: u64 = 20;
 
 const LOSERS: [&str; 3] = ["EXIT", "R>", "THROW"];
+/// The sums and differences, whether they move the flag or leave it.
+const SUMS: [u8; 7] = [0x0E, 0x0F, 0x10, 0x11, 0x12, 0x14, 0x15];
+/// Those that leave it, and whether they carry or borrow on a cell.
+const LEAVERS: [(u8, fn(u32) -> bool); 3] =
+    [(0x10, |cell| cell != 0), (0x11, |cell| cell == u32::MAX), (0x12, |cell| cell == 0)];
 
 pub struct Tally {
     /// By first byte.
@@ -21,6 +26,10 @@ pub struct Tally {
     /// By the instruction that dropped the level, as `LOSERS`.
     frames_lost: [u64; 3],
     catches_lost: [u64; 3],
+    /// By the flag before each of `SUMS`.
+    flags: [[u64; 2]; SUMS.len()],
+    /// How often each of `LEAVERS` left a flag that was not its own carry or borrow.
+    left: [u64; LEAVERS.len()],
     /// Kinds of images, states and calls that were compared.
     kinds: BTreeMap<&'static str, u64>,
     /// Steps of each program.
@@ -34,6 +43,8 @@ impl Default for Tally {
             answers: [0; 15],
             frames_lost: [0; 3],
             catches_lost: [0; 3],
+            flags: Default::default(),
+            left: Default::default(),
             kinds: BTreeMap::new(),
             steps: Vec::new(),
         }
@@ -41,8 +52,14 @@ impl Default for Tally {
 }
 
 impl Observer for Tally {
-    fn completed(&mut self, code: u8, before: Levels, after: Levels) {
+    fn completed(&mut self, code: u8, before: Seen, after: Seen) {
         self.codes[usize::from(code)] += 1;
+        if let Some(sum) = SUMS.iter().position(|&sum| sum == code) {
+            self.flags[sum][before.flag as usize] += 1;
+        }
+        for (count, (leaver, carries)) in self.left.iter_mut().zip(LEAVERS) {
+            *count += u64::from(leaver == code && carries(before.top) != (before.flag == 1));
+        }
         let loser = match row_of(code).map(|row| row.op) {
             Some(Op::Exit) => 0,
             Some(Op::RFrom) => 1,
@@ -82,8 +99,25 @@ impl Tally {
     }
 
     fn code_counts(&self) -> Vec<(String, u64)> {
-        let name = |code| row_of(code).map_or("", |row| row.name);
         known_codes().map(|code| (format!("{code:02X} {}", name(code)), self.completed(code))).collect()
+    }
+
+    fn flag_counts(&self) -> Vec<(String, u64)> {
+        let named = |(code, counts): (u8, [u64; 2])| {
+            counts
+                .into_iter()
+                .enumerate()
+                .map(move |(flag, count)| (format!("flag {flag} before {}", name(code)), count))
+        };
+        SUMS.into_iter().zip(self.flags).flat_map(named).collect()
+    }
+
+    fn left_counts(&self) -> Vec<(String, u64)> {
+        LEAVERS
+            .into_iter()
+            .zip(self.left)
+            .map(|((code, _), count)| (format!("flag left by {}", name(code)), count))
+            .collect()
     }
 
     fn answer_counts(&self) -> Vec<(String, u64)> {
@@ -103,7 +137,9 @@ impl Tally {
 
     /// What was seen too seldom; nothing where the comparison has looked at enough.
     pub fn shortfalls(&self) -> Vec<String> {
-        let counts = [self.code_counts(), self.answer_counts(), self.loss_counts()].concat();
+        let counts =
+            [self.code_counts(), self.answer_counts(), self.loss_counts(), self.flag_counts(), self.left_counts()]
+                .concat();
         let mut short: Vec<String> = counts
             .into_iter()
             .filter(|(_, count)| *count < LEAST)
@@ -122,9 +158,15 @@ impl fmt::Display for Tally {
         columns(f, "instructions completed", 6, 10, self.code_counts())?;
         columns(f, "answers", 6, 10, self.answer_counts())?;
         columns(f, "levels lost", 3, 26, self.loss_counts())?;
+        columns(f, "flag before a sum or difference", 4, 22, self.flag_counts())?;
+        columns(f, "flag other than their own carry or borrow", 3, 22, self.left_counts())?;
         let most = self.steps.iter().max().copied().unwrap_or(0);
         writeln!(f, "steps of a program\n  median {}   most {}", grouped(self.median()), grouped(most))
     }
+}
+
+fn name(code: u8) -> &'static str {
+    row_of(code).map_or("", |row| row.name)
 }
 
 /// A titled list in so many columns.

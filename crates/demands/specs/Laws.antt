@@ -14,9 +14,15 @@ pub mod Carried
 pub mod Added
 -- restored links show the same cells
 pub mod Views
+-- the cell that a step leaves on top
+pub mod Tops
 -- while the exception level of a CATCH stands
 pub mod Stood
 -- the codes of the operations that move the flag
 pub mod Flag
+-- what two operations on cells leave
+pub mod Double
 -- histories by computation
 pub mod Walks
+-- histories by computation in which the flag stays
+pub mod Resting

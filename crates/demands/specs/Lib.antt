@@ -18,6 +18,10 @@ pub mod Back
 pub mod Walk
 -- who touches the extend flag
 pub mod Flag
+-- sums and differences of double length
+pub mod Double
+-- a sample of them
+pub mod Counted
 -- three starred lines of the bench sheet, taken apart
 pub mod Cases
 -- an image for demand 3 over two runs

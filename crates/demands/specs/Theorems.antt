@@ -20,6 +20,10 @@ pub mod Cases
 pub mod Worked
 -- nothing else touches the flag
 pub mod Flag
+-- sums and differences of double length
+pub mod Double
+-- what they say of a sample
+pub mod Counted
 -- P after a step by the table alone
 pub mod Depth
 -- no second answer

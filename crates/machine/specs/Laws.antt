@@ -6,7 +6,7 @@ pub mod Passed
 pub mod Costs
 -- what an instruction takes, by its code
 pub mod Prices
--- the instructions on the linked stacks stand at one code each
+-- the instructions on the linked stacks and the arithmetic on two cells stand at one code each
 pub mod Marks
 -- what every row keeps, kind by kind
 pub mod Told
@@ -26,3 +26,5 @@ pub mod Readings
 pub mod Starred
 -- a step and a run keep what a machine and a memory that exist can hold
 pub mod Carries
+-- a machine as an image starts it exists
+pub mod Started

@@ -1,4 +1,5 @@
--- The starred lines of document 01's bench sheet, as one table. That all come out so is one theorem (Laws/Starred.antt).
+-- The starred lines of document 01's bench sheet, the fifth as request P2 has it, as one table. That all come out so is one theorem
+-- (Laws/Starred.antt).
 use mathlib.Core.Bool.{Bool, true, false}
 use mathlib.Core.List.{List, [], _∷_}
 use Prim.Native.Nat.{ℕ}
@@ -63,9 +64,9 @@ starred =
     [] 1000 (0 ∷ 3 ∷ 5 ∷ 9 ∷ 1 ∷ 0 ∷ 0 ∷ 0 ∷ []) (6 ∷ []) ∷
     -- a branch to itself spends the budget
     case (0xFF ∷ 0xFE ∷ []) [] 5 (1 ∷ 5 ∷ 10 ∷ 0 ∷ 0 ∷ 0 ∷ 0 ∷ 0 ∷ []) [] ∷
-    -- 1+ on FFFFFFFF gives 0; then ADDX on 0 and 0 gives 1
+    -- 1+ on FFFFFFFF gives 0; then ADDX on 0 and 0, from a fresh flag, gives 0
     case (0x11 ∷ 0x3D ∷ []) (0xFFFFFFFF ∷ []) 1000 (0 ∷ 1 ∷ 1 ∷ 1 ∷ 1 ∷ 0 ∷ 0 ∷ 0 ∷ []) (0 ∷ []) ∷
-    case (0x11 ∷ 0x20 ∷ 0x14 ∷ 0x3D ∷ []) (0xFFFFFFFF ∷ []) 1000 (0 ∷ 3 ∷ 3 ∷ 3 ∷ 1 ∷ 0 ∷ 0 ∷ 0 ∷ []) (1 ∷ []) ∷
+    case (0x11 ∷ 0x20 ∷ 0x14 ∷ 0x3D ∷ []) (0xFFFFFFFF ∷ []) 1000 (0 ∷ 3 ∷ 3 ∷ 3 ∷ 1 ∷ 0 ∷ 0 ∷ 0 ∷ []) (0 ∷ []) ∷
     -- DIVS on -7 and 2: remainder -1, quotient -3
     case
     (0x2B ∷ 0x3D ∷ []) (0xFFFFFFF9 ∷ 2 ∷ []) 1000 (0 ∷ 1 ∷ 42 ∷ 1 ∷ 2 ∷ 0 ∷ 0 ∷ 0 ∷ []) (0xFFFFFFFF ∷ 0xFFFFFFFD ∷ []) ∷

@@ -15,11 +15,11 @@ pub mod Shifts
 pub mod Products
 -- 2B, 2C: DIVS, DIVU
 pub mod Quotients
+-- a number of two cells
+pub mod Double
 -- all of them by name, in the order of their codes
 pub mod Dispatch
 -- what an outcome says in document 01's terms
 pub mod Outcomes
--- who moves the flag
-pub mod Flag
 -- Laws: what is proved of the definitions.
 pub mod Laws

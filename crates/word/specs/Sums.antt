@@ -1,4 +1,5 @@
--- Sums and differences of cells. They wrap at 2 ^ 32, and the flag becomes the carry or the borrow: `sumOf` and `differenceOf` alone move it.
+-- Sums and differences of cells. They wrap at 2 ^ 32. After +, -, ADDX and SUBX the flag is the carry or the borrow; NEGATE, 1+ and 1- leave it
+-- as it came, which is request P2's rule in the place of document 01's.
 use Prim.Native.Nat.{ℕ, _+_, _-_, _^_, _%_}
 use lib.Dec.{leb, ltb}
 use Rattle.word.specs.Truth.{bitOf}
@@ -35,15 +36,15 @@ minusOf x y flag = alone (differenceOf x y)
 
 -- NEGATE, which is 0 - x
 abbrev pub negateOf : ℕ → ℕ → Changed
-negateOf x flag = differenceOf 0 x
+negateOf x flag = record { value = differenceOf 0 x .value; flag = flag }
 
 -- 1+
 abbrev pub incrementOf : ℕ → ℕ → Changed
-incrementOf x flag = sumOf (x + 1)
+incrementOf x flag = record { value = sumOf (x + 1) .value; flag = flag }
 
 -- 1-
 abbrev pub decrementOf : ℕ → ℕ → Changed
-decrementOf x flag = differenceOf x 1
+decrementOf x flag = record { value = differenceOf x 1 .value; flag = flag }
 
 -- ADDX adds the old flag too
 abbrev pub addExtendedOf : ℕ → ℕ → ℕ → Outcome

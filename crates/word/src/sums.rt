@@ -47,21 +47,33 @@ pub(crate) fn minus(x: u32, y: u32, flag: u32) -> Outcome
 pub(crate) fn negate(x: u32, flag: u32) -> Changed
     ensures { λ r. ⌜ r ≡ negateOf x flag ⌝ }
 {
-    difference(0, x)
+    let opposite = difference(0, x);
+    Changed {
+        value: opposite.value,
+        flag,
+    }
 }
 
 // 1+ ( x -- x+1 )
 pub(crate) fn increment(x: u32, flag: u32) -> Changed
     ensures { λ r. ⌜ r ≡ incrementOf x flag ⌝ }
 {
-    sum(x, 1)
+    let whole = sum(x, 1);
+    Changed {
+        value: whole.value,
+        flag,
+    }
 }
 
 // 1- ( x -- x-1 )
 pub(crate) fn decrement(x: u32, flag: u32) -> Changed
     ensures { λ r. ⌜ r ≡ decrementOf x flag ⌝ }
 {
-    difference(x, 1)
+    let rest = difference(x, 1);
+    Changed {
+        value: rest.value,
+        flag,
+    }
 }
 
 // ADDX ( x y -- x+y+flag ): either of the two additions may carry.

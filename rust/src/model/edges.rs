@@ -48,15 +48,15 @@ fn budget_is_tested_before_the_end() {
 
 #[test]
 fn borrow_needs_a_33rd_bit() {
-    // 1- on 0 borrows; x - FFFFFFFF - 1 then borrows again and leaves x.
-    let program = assemble("1- SUBX ZERO ZERO ADDX EXIT");
-    assert_eq!(text(&image(&program, &[5, 0], None)), "0 5 5 5 2 0 0 0\n00000005\n00000001\n");
+    // 0 - 1 borrows and leaves FFFFFFFF; x - FFFFFFFF - 1 then borrows again and leaves x.
+    let program = assemble("- SUBX ZERO ZERO ADDX EXIT");
+    assert_eq!(text(&image(&program, &[5, 0, 1], None)), "0 5 5 5 2 0 0 0\n00000005\n00000001\n");
 }
 
 #[test]
 fn reset_keeps_the_flag() {
-    let program = assemble("1+ RESETSP ZERO ZERO ADDX EXIT");
-    assert_eq!(text(&image(&program, &[u32::MAX], None)), "0 5 5 5 1 0 0 0\n00000001\n");
+    let program = assemble("+ RESETSP ZERO ZERO ADDX EXIT");
+    assert_eq!(text(&image(&program, &[u32::MAX, 1], None)), "0 5 5 5 1 0 0 0\n00000001\n");
 }
 
 #[test]

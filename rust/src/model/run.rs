@@ -12,21 +12,23 @@ pub struct Outcome {
     pub cycles: u64,
 }
 
-/// The levels of the linked stacks, for an observer.
+/// What an observer sees of the machine: the levels of the linked stacks, the flag and the top cell, 0 where there is none.
 #[derive(Clone, Copy)]
-pub struct Levels {
+pub struct Seen {
     pub s: usize,
     pub e: usize,
+    pub flag: u32,
+    pub top: u32,
 }
 
 /// Told of every completed instruction.
 pub trait Observer {
-    fn completed(&mut self, code: u8, before: Levels, after: Levels);
+    fn completed(&mut self, code: u8, before: Seen, after: Seen);
 }
 
 /// Nobody is watching.
 impl Observer for () {
-    fn completed(&mut self, _: u8, _: Levels, _: Levels) {}
+    fn completed(&mut self, _: u8, _: Seen, _: Seen) {}
 }
 
 pub fn run(machine: &mut Machine, memory: &mut [u8], budget: u64, observer: &mut impl Observer) -> Outcome {
@@ -43,12 +45,12 @@ pub fn run(machine: &mut Machine, memory: &mut [u8], budget: u64, observer: &mut
         }
         // A step may store over its own code, so the code is noted first; outside memory there is no step to tell of.
         let code = memory.get(machine.program_counter as usize).copied().unwrap_or(0);
-        let before = levels(machine);
+        let before = seen(machine);
         match step(machine, memory) {
             Ok(cycles) => {
                 outcome.steps += 1;
                 outcome.cycles += cycles;
-                observer.completed(code, before, levels(machine));
+                observer.completed(code, before, seen(machine));
             }
             Err(answer) => break answer,
         }
@@ -56,6 +58,7 @@ pub fn run(machine: &mut Machine, memory: &mut [u8], budget: u64, observer: &mut
     outcome
 }
 
-fn levels(machine: &Machine) -> Levels {
-    Levels { s: machine.s, e: machine.e }
+fn seen(machine: &Machine) -> Seen {
+    let top = machine.p.checked_sub(1).map_or(0, |at| machine.parameters[at]);
+    Seen { s: machine.s, e: machine.e, flag: machine.flag, top }
 }

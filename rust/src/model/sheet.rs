@@ -80,8 +80,8 @@ fn branch_to_itself() {
 }
 
 #[test]
-fn carry_of_one_plus_is_added_by_addx() {
-    assert_eq!(cells_after("1+ ADDX EXIT", &[0, 0, u32::MAX]), ["00000000", "00000001"]);
+fn one_plus_leaves_the_flag_to_addx() {
+    assert_eq!(cells_after("1+ ZERO ADDX EXIT", &[u32::MAX]), ["00000000"]);
     assert_eq!(cells_after("1+ EXIT", &[u32::MAX]), ["00000000"]);
 }
 

@@ -67,9 +67,9 @@ fn carry_out(machine: &mut Machine, memory: &mut [u8; MEMORY], instruction: &Ins
 
         Op::Add => two_with_flag(machine, |a, b, _| a + b),
         Op::Sub => two_with_flag(machine, |a, b, _| a - b),
-        Op::Negate => one_with_flag(machine, |a| -a),
-        Op::OnePlus => one_with_flag(machine, |a| a + 1),
-        Op::OneMinus => one_with_flag(machine, |a| a - 1),
+        Op::Negate => one_to_one(machine, |a| 0u32.wrapping_sub(a)),
+        Op::OnePlus => one_to_one(machine, |a| a.wrapping_add(1)),
+        Op::OneMinus => one_to_one(machine, |a| a.wrapping_sub(1)),
         Op::TwoSlash => one_to_one(machine, |a| (a as i32 >> 1) as u32),
         Op::AddX => two_with_flag(machine, |a, b, flag| a + b + flag),
         Op::SubX => two_with_flag(machine, |a, b, flag| a - b - flag),
@@ -166,14 +166,6 @@ fn two_to_two(machine: &mut Machine, f: impl Fn(u32, u32) -> (u32, u32)) {
     let (x, y) = f(a, b);
     machine.push(x);
     machine.push(y);
-}
-
-/// ( a -- x ), the flag telling whether the exact result had to wrap.
-fn one_with_flag(machine: &mut Machine, exact: impl Fn(i64) -> i64) {
-    let a = machine.pop();
-    let (value, flag) = wrapped(exact(a.into()));
-    machine.push(value);
-    machine.flag = flag;
 }
 
 /// ( a b -- x ), the flag telling whether the exact result had to wrap.

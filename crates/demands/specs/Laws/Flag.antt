@@ -6,16 +6,15 @@ use Prim.Native.Nat.{ℕ}
 use lib.Dec.{T}
 use Rattle.plain.specs.Choice.{both}
 use Rattle.plain.specs.Laws.Choice.{both-parts}
-use Rattle.word.specs.Flag.{oneMovers, twoMovers}
-use Rattle.word.specs.declared.OneCell.{OneCell}
+use Rattle.word.specs.Laws.Flag.{twoMovers}
 use Rattle.word.specs.declared.TwoCells.{TwoCells}
 use Rattle.machine.specs.Codes.{Op, SHUFFLE, JUMP, LINK, ONE, TWO, FETCH, STORE, LITERAL, entryAt}
-use Rattle.machine.specs.Laws.Marks.{codeOfOne, codeOfTwo, marked-one, marked-two}
+use Rattle.machine.specs.Laws.Marks.{codeOfTwo, marked-two}
 use Rattle.machine.specs.Laws.Told.{MovesFlag}
 use Rattle.demands.specs.Flag.{movers, moves}
 
 -- a test that passes at each element of a list passes at a member
-abbrev every : {A : Type 0} → (A → Bool) → List A → Bool
+abbrev pub every : {A : Type 0} → (A → Bool) → List A → Bool
 every f [] = true
 every f (x ∷ xs) = both (f x) (every f xs)
 
@@ -27,9 +26,7 @@ pub listed : (code : ℕ) (op : Op) → entryAt code .op ≡ op → MovesFlag op
 listed code (SHUFFLE o) is m = absurd m
 listed code (JUMP o) is m = absurd m
 listed code (LINK o) is m = absurd m
-listed code (ONE o) is m =
-    subst (λ (n : ℕ). T (moves n movers)) (sym (marked-one code o is))
-    (at-member (λ (x : OneCell). moves (codeOfOne x) movers) oneMovers o tt m)
+listed code (ONE o) is m = absurd m
 listed code (TWO o) is m =
     subst (λ (n : ℕ). T (moves n movers)) (sym (marked-two code o is))
     (at-member (λ (x : TwoCells). moves (codeOfTwo x) movers) twoMovers o tt m)

@@ -1,12 +1,11 @@
 -- While the exception level of a CATCH stands: one more moment leaves it standing, is a RESETSP, or brings the machine back.
 use mathlib.Core.Logic.{_⊎_, inl, inr, ⊎-elim}
 use mathlib.Core.Path.{_≡_, sym, ap, _∙_, subst}
-use mathlib.Core.List.{List, [], _∷_}
-use Prim.Native.Nat.{ℕ, suc, _+_, _-_, _%_, _^_, _<_, _≤_}
+use mathlib.Core.List.{List}
+use Prim.Native.Nat.{ℕ, suc, _+_, _-_, _%_, _^_, _≤_}
 use native.Mathlib.Omega.{arith}
 use borrow.Author.Tests.{eqb-false, ltb-false}
-use lib.ListN.{length, getD}
-use lib.Seq.{sets, getD-set-same}
+use lib.ListN.{length}
 use Rattle.links.specs.Actions.{Act, catch, throw, reset, act}
 use Rattle.links.specs.Allowed.{Allowed}
 use Rattle.links.specs.Restored.{Restored}
@@ -27,6 +26,7 @@ use Rattle.machine.specs.declared.Machine.{Machine}
 use Rattle.demands.specs.History.{World, codeAt, Moment, step, host, Resets}
 use Rattle.demands.specs.Back.{Way, by-exit, by-throw, by-pop, Back}
 use Rattle.demands.specs.Laws.Views.{frame-in-view, level-in-view}
+use Rattle.demands.specs.Laws.Tops.{top-after}
 
 -- the machine is whole and well formed, and what the CATCH at o pushed stands; there P counted the address
 pub record Stood (o w : World) : Type 0 where
@@ -86,14 +86,6 @@ catch-stood o w k whole formed is e =
           (subst (λ (b : Act). Stands l p (act b l)) (sym link) (caught l _ p (whole .shaped) (formed .sound) ok));
     }
 
--- the cell that a single put leaves on top
-put-top : (cells : List ℕ) (keeps : ℕ) (puts : List ℕ) (x : ℕ) → puts ≡ x ∷ [] → keeps < length cells →
-    getD (sets cells keeps puts) (keeps + length puts - 1) 0 ≡ x
-put-top cells keeps puts x is below =
-    let last : keeps + 1 - 1 ≡ keeps = omega arith in
-    ap (λ (xs : List ℕ). getD (sets cells keeps xs) (keeps + length xs - 1) 0) is ∙
-    (ap (λ (n : ℕ). getD (sets cells keeps (x ∷ [])) n 0) last ∙ getD-set-same cells keeps x 0 below)
-
 -- one more instruction
 module _ (o w v : World) (k : ℕ) (s : Stood o w) (e : stepOf (w .memory) (w .machine) ≡ done (v .memory) (v .machine) k) where
   good : Good (w .memory) (v .memory) (v .machine)
@@ -108,9 +100,8 @@ module _ (o w v : World) (k : ℕ) (s : Stood o w) (e : stepOf (w .memory) (w .m
       let r = rowHere w in
       let p-is : v .machine .p ≡ r .keeps + length (r .puts) = ap (λ (m : Machine). m .p) is-put in
       let one : length (r .puts) ≡ 1 = ap (λ (xs : List ℕ). length xs) (t .1 .code-put) in
-      let below : r .keeps < length (w .machine .cells) = omega (arith, good .formed .p-within, s .whole .cells-long) in
       by-throw (code-at w THROW (t .0)) (eqb-false (top (w .machine)) 0 (t .1 .non-zero)) (omega (arith, t .1 .to-copy, s .counted))
-      (ap top is-put ∙ put-top (w .machine .cells) (r .keeps) (r .puts) (top (w .machine)) (t .1 .code-put) below)
+      (top-after w v k (s .whole) (s .formed) e (top (w .machine)) (t .1 .code-put))
 
   back : Restored (o .machine .links) (v .machine .links) → Way o w v → Back o w v
   back restored way =

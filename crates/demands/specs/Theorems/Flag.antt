@@ -8,8 +8,8 @@ use Rattle.machine.specs.Step.{done, stepOf}
 use Rattle.machine.specs.Laws.Passed.{step-done}
 use Rattle.machine.specs.Laws.Told.{fair}
 use Rattle.machine.specs.declared.Machine.{Machine}
-use Rattle.demands.specs.History.{World, codeAt}
-use Rattle.demands.specs.Flag.{movers, moves, allMove}
+use Rattle.demands.specs.History.{World, codeAt, step, host, History, here, then}
+use Rattle.demands.specs.Flag.{movers, moves, NoneMoves, allMove}
 use Rattle.demands.specs.Laws.Flag.{listed}
 
 -- A step of any other code leaves the flag as it was.
@@ -21,11 +21,17 @@ flag-kept w v k e other =
     fair (instructionAt (w .memory) (w .machine .counter)) (w .memory) (w .machine) (entryAt (codeAt w) .op)
     .flag-kept (λ m. other (listed (codeAt w) (entryAt (codeAt w) .op) refl m))
 
+-- So over any history without them it stays as it was.
+pub flag-stays : {w v : World} (h : History w v) → NoneMoves h → v .machine .flag ≡ w .machine .flag
+flag-stays here none = refl
+flag-stays {w} (then {u = u} (step k e) rest) none = flag-stays rest (none .1) ∙ flag-kept w u k e (none .0)
+flag-stays (then (host e) rest) none = flag-stays rest none ∙ ap (λ (m : Machine). m .flag) e
+
 -- And each of them moves it in some state.
 pub flag-moves : T (allMove movers)
 unfolding Rattle.plain.specs.Zeros.padded Rattle.machine.specs.State.machineWith
     Rattle.links.specs.Fresh.freshLinks Rattle.links.specs.Fresh.freshFrame Rattle.links.specs.Fresh.freshLevel Rattle.links.specs.Actions.noLocals
     Rattle.machine.specs.Step.stepOf Rattle.machine.specs.Step.carried Rattle.machine.specs.Fetch.instructionAt
     Rattle.machine.specs.Rows.rowOf Rattle.machine.specs.Codes.entryAt Rattle.machine.specs.Codes.table
-    Rattle.word.specs.Dispatch.oneCellOf Rattle.word.specs.Dispatch.twoCellsOf
+    Rattle.word.specs.Dispatch.twoCellsOf
 flag-moves = tt

@@ -51,6 +51,9 @@ byte-list (suc n) v = subst AllBytes (sym (bytes-first n v)) (omega arith, byte-
 bytes-of : (l : List ℕ) → AllBytes l → Bytes l
 bytes-of l h i = all-read (λ b. b < 2 ^ 8) l h i 0 (omega arith)
 
+pub cell-fits : (m : Machine) → Fits m → (n : ℕ) → CellFits (getD (m .cells) n 0)
+cell-fits m h n = all-read CellFits (m .cells) (h .cells-fit) n 0 (omega arith)
+
 width-below : (w : Width) (n : ℕ) → n < 2 ^ (8 * size w) → CellFits n
 width-below Byte n h = omega arith
 width-below Word n h = omega arith
@@ -59,7 +62,7 @@ width-below Long n h = omega arith
 module _ (i : Instruction) (mem : List ℕ) (m : Machine) (operand-fits : CellFits (i .operand)) (next-fits : CellFits (i .next))
     (bytes : AllBytes mem) (whole : Whole m) (formed : Formed m) (h : Fits m) where
   cell-at : (n : ℕ) → CellFits (getD (m .cells) n 0)
-  cell-at n = all-read CellFits (m .cells) (h .cells-fit) n 0 (omega arith)
+  cell-at n = cell-fits m h n
 
   picked : (b : Bool) (x y : ℕ) → CellFits x → CellFits y → CellFits (pick b x y)
   picked true x y hx hy = hx

@@ -1,11 +1,9 @@
--- The instructions on the linked stacks and the arithmetic stand at one code each.
+-- The instructions on the linked stacks and the arithmetic on two cells stand at one code each.
 use mathlib.Core.Path.{_≡_, sym, subst}
 use mathlib.Core.Bool.{Bool, true}
 use Prim.Native.Nat.{ℕ, _≤_}
 use lib.Dec.{T, eqb, eqb→eq, lit≤}
 use Rattle.plain.specs.Choice.{pick, decided}
-use Rattle.word.specs.declared.OneCell.{OneCell}
-use Rattle.word.specs.declared.OneCell.the-variants.{Negate, Increment, Decrement, Halve, ZeroEqual, ZeroUnequal, ZeroLess, ZeroGreater, Invert, ShiftLeft, ShiftRight, ExtendByte, ExtendWord}
 use Rattle.word.specs.declared.TwoCells.{TwoCells}
 use Rattle.word.specs.declared.TwoCells.the-variants.{Plus, Minus, AddExtended, SubtractExtended, Equal, Unequal, Less, Greater, Below, Above, AndBits, OrBits, XorBits, MultiplySigned, MultiplyUnsigned, DivideSigned, DivideUnsigned}
 use Rattle.machine.specs.Codes.{DUP-NONZERO, Shuffle-discrete, Link, >R, R-AT, R>, CATCH, RESETSP, THROW, JSL, JSR, EXIT, Op, SHUFFLE, JUMP, LINK, ONE, TWO, FETCH, STORE, LITERAL, table, entryAt}
@@ -22,21 +20,6 @@ codeOf THROW = 0x0D
 codeOf JSL = 0x38
 codeOf JSR = 0x39
 codeOf EXIT = 0x3D
-
-abbrev pub codeOfOne : OneCell → ℕ
-codeOfOne Negate = 0x10
-codeOfOne Increment = 0x11
-codeOfOne Decrement = 0x12
-codeOfOne Halve = 0x13
-codeOfOne ZeroEqual = 0x1C
-codeOfOne ZeroUnequal = 0x1D
-codeOfOne ZeroLess = 0x1E
-codeOfOne ZeroGreater = 0x1F
-codeOfOne Invert = 0x23
-codeOfOne ShiftLeft = 0x25
-codeOfOne ShiftRight = 0x26
-codeOfOne ExtendByte = 0x27
-codeOfOne ExtendWord = 0x28
 
 abbrev pub codeOfTwo : TwoCells → ℕ
 codeOfTwo Plus = 0x0E
@@ -62,7 +45,7 @@ atCode : ℕ → Op → Bool
 atCode code (SHUFFLE o) = pick (decided (Shuffle-discrete o DUP-NONZERO)) (eqb code 0x33) true
 atCode code (JUMP o) = true
 atCode code (LINK o) = eqb code (codeOf o)
-atCode code (ONE o) = eqb code (codeOfOne o)
+atCode code (ONE o) = true
 atCode code (TWO o) = eqb code (codeOfTwo o)
 atCode code (FETCH w) = true
 atCode code (STORE w) = true
@@ -79,10 +62,6 @@ stands-at code op is = subst (λ (x : Op). T (atCode code x)) is (at-code (λ co
 pub marked : (code : ℕ) (o : Link) → entryAt code .op ≡ LINK o → code ≡ codeOf o
 unfolding atCode
 marked code o is = eqb→eq code (codeOf o) (stands-at code (LINK o) is)
-
-pub marked-one : (code : ℕ) (o : OneCell) → entryAt code .op ≡ ONE o → code ≡ codeOfOne o
-unfolding atCode
-marked-one code o is = eqb→eq code (codeOfOne o) (stands-at code (ONE o) is)
 
 pub marked-two : (code : ℕ) (o : TwoCells) → entryAt code .op ≡ TWO o → code ≡ codeOfTwo o
 unfolding atCode

@@ -1,4 +1,4 @@
--- Every starred case comes out as document 01 says, computed over the definition.
+-- Every starred case comes out as its line says, computed over the definition.
 use lib.Dec.{T}
 use Rattle.machine.specs.Sheet.{allRight, starred}
 

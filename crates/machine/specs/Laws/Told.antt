@@ -12,8 +12,7 @@ use Rattle.numbers.specs.Bytes.{bytesOf}
 use Rattle.links.specs.Linked.{copyOfP}
 use Rattle.links.specs.Actions.{Act, still, push, call, catch, exit, pop, throw, keep, reset}
 use Rattle.word.specs.Dispatch.{twoCellsOf}
-use Rattle.word.specs.Flag.{oneMovers, twoMovers}
-use Rattle.word.specs.Laws.Flag.{OfFlag, FlagFits, one-flag, two-flag, one-leaves, two-leaves}
+use Rattle.word.specs.Laws.Flag.{twoMovers, OfFlag, FlagFits, two-flag, one-leaves, two-leaves}
 use Rattle.word.specs.declared.Outcome.{Outcome}
 use Rattle.word.specs.declared.Outcome.the-variants.{Single, Double, DivisorZero}
 use Rattle.machine.specs.Codes.{Link, >R, R-AT, R>, CATCH, RESETSP, THROW, JSL, JSR, EXIT, Op, SHUFFLE, JUMP, LINK, ONE, TWO, FETCH, STORE, LITERAL, entryAt}
@@ -36,7 +35,7 @@ abbrev pub MovesFlag : Op → Type 0
 MovesFlag (SHUFFLE o) = ⊥
 MovesFlag (JUMP o) = ⊥
 MovesFlag (LINK o) = ⊥
-MovesFlag (ONE o) = List·Memᴰ o oneMovers
+MovesFlag (ONE o) = ⊥
 MovesFlag (TWO o) = List·Memᴰ o twoMovers
 MovesFlag (FETCH w) = ⊥
 MovesFlag (STORE w) = ⊥
@@ -109,13 +108,7 @@ module _ (i : Instruction) (mem : List ℕ) (m : Machine) where
   fair (SHUFFLE o) = kept-fair _ _ refl refl tt
   fair (JUMP o) = kept-fair _ _ refl refl tt
   fair (LINK o) = link-fair o
-  fair (ONE o) =
-      record {
-        flag-within = one-flag o (top m) (m .flag);
-        flag-kept = one-leaves o (top m) (m .flag);
-        same-length = refl;
-        tells = tt;
-      }
+  fair (ONE o) = kept-fair _ _ (one-leaves o (top m) (m .flag)) refl tt
   fair (TWO o) =
       two-fair (TWO o) (twoCellsOf o (second m) (top m) (m .flag)) (two-flag o (second m) (top m) (m .flag))
       (two-leaves o (second m) (top m) (m .flag))

@@ -1,10 +1,11 @@
 -- What holds of each element of a list holds of what is read from it, and is kept by a store of something that it holds of.
-use mathlib.Core.List.{List, [], _∷_}
-use Prim.Native.Nat.{ℕ, zero, suc, _<_}
+use mathlib.Core.List.{List, [], _∷_, _++_}
+use Prim.Native.Nat.{ℕ, zero, suc, _-_, _<_}
 use native.Mathlib.Nat.{le-of-suc-le-suc, not-suc-le-zero}
 use lib.ListN.{getD, set, length, replicate}
 use lib.Seq.{sets}
 use Rattle.plain.specs.All.{All}
+use Rattle.plain.specs.Zeros.{padded}
 
 module _ {A : Type 0} (P : A → Type 0) where
   -- of an element within the list
@@ -31,3 +32,13 @@ module _ {A : Type 0} (P : A → Type 0) where
   pub all-replicate : (n : ℕ) (x : A) → P x → All P (replicate n x)
   all-replicate zero x p = tt
   all-replicate (suc n) x p = (p, all-replicate n x p)
+
+  pub all-append : (l m : List A) → All P l → All P m → All P (l ++ m)
+  all-append [] m h k = k
+  all-append (x ∷ xs) m h k = (h .0, all-append xs m (h .1) k)
+
+pub all-padded : (P : ℕ → Type 0) (size : ℕ) (l : List ℕ) → All P l → P 0 → All P (padded size l)
+unfolding padded
+all-padded P size l h zeros =
+    let more = size - length l in
+    all-append P l (replicate more 0) h (all-replicate P more 0 zeros)

@@ -2,7 +2,7 @@
 use mathlib.Core.Bool.{Bool, true, false}
 use mathlib.Core.Path.{_≡_, refl, subst}
 use lib.Dec.{T}
-use Rattle.plain.specs.Choice.{pick, both}
+use Rattle.plain.specs.Choice.{pick, both, not}
 
 both-left : (a b : Bool) → T (both a b) → T a
 both-left true b t = tt
@@ -28,6 +28,11 @@ both-true false b e = absurd (subst (λ (x : Bool). T (pick x false true)) e tt)
 pub both-false : (a b : Bool) → both a b ≡ false → a ≡ true → b ≡ false
 both-false true b e t = e
 both-false false b e t = absurd (subst (λ (x : Bool). T (pick x false true)) t tt)
+
+-- a test does not hold where its opposite does
+pub opposed : (b : Bool) → T (not b) → T b → ⊥
+opposed true other same = other
+opposed false other same = same
 
 -- a test that holds is true
 pub is-true : (b : Bool) → T b → b ≡ true

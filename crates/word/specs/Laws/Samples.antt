@@ -14,8 +14,8 @@ use Rattle.word.specs.declared.Outcome.the-variants.{Single, Double}
 plus-carries : plusOf 0xffffffff 1 0 ≡ Single 0 1
 plus-carries = refl
 
-increment-carries : incrementOf 0xffffffff 0 ≡ record { value = 0; flag = 1 }
-increment-carries = refl
+increment-wraps : incrementOf 0xffffffff 0 ≡ record { value = 0; flag = 0 }
+increment-wraps = refl
 
 carry-is-added : addExtendedOf 0 0 1 ≡ Single 1 0
 carry-is-added = refl
@@ -24,7 +24,7 @@ carry-is-added = refl
 borrow-of-33-bits : subtractExtendedOf 5 0xffffffff 1 ≡ Single 5 1
 borrow-of-33-bits = refl
 
-zero-negated : negateOf 0 1 ≡ record { value = 0; flag = 0 }
+zero-negated : negateOf 0 1 ≡ record { value = 0; flag = 1 }
 zero-negated = refl
 
 minus-one-is-less : lessOf 0xffffffff 0 0 ≡ Single 0xffffffff 0

@@ -6,6 +6,7 @@ use native.Mathlib.Nat.{add-mul, mul-add, mul-le-mul, mul-comm}
 use native.Mathlib.Omega.{arith}
 use lib.IntN.{ℤ, _*ℤ_}
 use borrow.Author.Tests.{leb-true, leb-false}
+use Rattle.word.specs.Double.{double}
 use Rattle.word.specs.Products.{wide, multiplySignedOf, multiplyUnsignedOf}
 use Rattle.word.specs.Quotients.{isNegative, magnitudeOf, withSign, apart}
 use Rattle.word.specs.Integers.{signed, signedAt}
@@ -15,7 +16,7 @@ use Rattle.word.specs.Laws.Magnitude.{signed-size, magnitude-le}
 use Rattle.word.specs.declared.Outcome.the-variants.{Double}
 
 pub multiply-unsigned-means : (x y flag : ℕ) → x < 2 ^ 32 → y < 2 ^ 32 →
-    (low high : ℕ) × (multiplyUnsignedOf x y flag ≡ Double low high flag) × (low < 2 ^ 32) × (high < 2 ^ 32) × (low + high * 2 ^ 32 ≡ x * y)
+    (low high : ℕ) × (multiplyUnsignedOf x y flag ≡ Double low high flag) × (low < 2 ^ 32) × (high < 2 ^ 32) × (double low high ≡ x * y)
 multiply-unsigned-means x y flag hx hy =
     (x * y % 2 ^ 32, x * y / 2 ^ 32, refl, omega arith, omega (arith, product-below hx hy), omega arith)
 
@@ -62,7 +63,7 @@ module _ (x y : ℕ) (hx : x < 2 ^ 32) (hy : y < 2 ^ 32) where
 
   pub multiply-signed-means : (flag : ℕ) →
       (low high : ℕ) × (multiplySignedOf x y flag ≡ Double low high flag) × (low < 2 ^ 32) × (high < 2 ^ 32)
-      × (signedAt (2 ^ 63) (low + high * 2 ^ 32) ≡ signed x *ℤ signed y)
+      × (signedAt (2 ^ 63) (double low high) ≡ signed x *ℤ signed y)
   multiply-signed-means flag =
       let w = wide x * wide y % 2 ^ 64 in
       let whole : w % 2 ^ 32 + w / 2 ^ 32 * 2 ^ 32 ≡ w = omega arith in (

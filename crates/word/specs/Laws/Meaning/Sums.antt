@@ -1,4 +1,5 @@
 -- Sums and differences with their carry or borrow are whole: of the numbers below 2 ^ 32 and the flags 0 and 1, these alone make the equation true.
+-- NEGATE, 1+ and 1- leave the flag, so theirs hold modulo 2 ^ 32.
 use mathlib.Core.Path.{_≡_, refl}
 use mathlib.Core.Bool.{Bool, true, false}
 use Prim.Native.Nat.{ℕ, _+_, _-_, _*_, _^_, _%_, _≤_, _<_}
@@ -35,16 +36,16 @@ minus-means x y flag hx hy =
     ((x + 2 ^ 33 - y) % 2 ^ 32, borrowOf x y, refl, omega arith, bit-le (ltb x y), difference-whole x y hx (omega arith))
 
 pub negate-means : (x flag : ℕ) → x < 2 ^ 32 →
-    (negateOf x flag .value < 2 ^ 32) × (negateOf x flag .flag ≤ 1) × (negateOf x flag .value + x ≡ 0 + negateOf x flag .flag * 2 ^ 32)
-negate-means x flag hx = (omega arith, bit-le (ltb 0 x), difference-whole 0 x (omega arith) (omega arith))
+    (negateOf x flag .value < 2 ^ 32) × (negateOf x flag .flag ≡ flag) × ((negateOf x flag .value + x) % 2 ^ 32 ≡ 0)
+negate-means x flag hx = (omega arith, refl, omega arith)
 
 pub increment-means : (x flag : ℕ) → x < 2 ^ 32 →
-    (incrementOf x flag .value < 2 ^ 32) × (incrementOf x flag .flag ≤ 1) × (incrementOf x flag .value + incrementOf x flag .flag * 2 ^ 32 ≡ x + 1)
-increment-means x flag hx = (omega arith, bit-le (leb (2 ^ 32) (x + 1)), sum-whole (x + 1) (omega arith))
+    (incrementOf x flag .value < 2 ^ 32) × (incrementOf x flag .flag ≡ flag) × ((incrementOf x flag .value + 2 ^ 32 - 1) % 2 ^ 32 ≡ x)
+increment-means x flag hx = (omega arith, refl, omega arith)
 
 pub decrement-means : (x flag : ℕ) → x < 2 ^ 32 →
-    (decrementOf x flag .value < 2 ^ 32) × (decrementOf x flag .flag ≤ 1) × (decrementOf x flag .value + 1 ≡ x + decrementOf x flag .flag * 2 ^ 32)
-decrement-means x flag hx = (omega arith, bit-le (ltb x 1), difference-whole x 1 hx (omega arith))
+    (decrementOf x flag .value < 2 ^ 32) × (decrementOf x flag .flag ≡ flag) × ((decrementOf x flag .value + 1) % 2 ^ 32 ≡ x)
+decrement-means x flag hx = (omega arith, refl, omega arith)
 
 -- ADDX
 pub add-means : (x y flag : ℕ) → x < 2 ^ 32 → y < 2 ^ 32 → flag ≤ 1 →
