@@ -2,17 +2,10 @@
 use mathlib.Core.Path.{_≡_}
 use Prim.Native.Nat.{ℕ}
 use Rattle.word.specs.Double.{double}
-use Rattle.machine.specs.Fits.{AllBytes}
 use Rattle.machine.specs.Rows.{top, second}
 use Rattle.machine.specs.Step.{done, stepOf}
-use Rattle.demands.specs.History.{World, codeAt, step, host, History, here, then}
+use Rattle.demands.specs.History.{World, codeAt, History, HostLeavesBytes}
 use Rattle.demands.specs.Flag.{NoneMoves}
-
--- what the host leaves as memory is bytes
-abbrev pub HostLeavesBytes : {w v : World} → History w v → Type 0
-HostLeavesBytes here = Unit {0}
-HostLeavesBytes (then (step k e) rest) = HostLeavesBytes rest
-HostLeavesBytes (then {u = u} (host e) rest) = AllBytes (u .memory) × HostLeavesBytes rest
 
 -- one code is carried out at a and leads to b; from there none moves the flag until c; there the other code is carried out and leads to d
 pub record LowThenHigh (lowCode highCode : ℕ) (a b c d : World) : Type 0 where

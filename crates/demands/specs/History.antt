@@ -7,6 +7,7 @@ use Rattle.numbers.specs.Bytes.{byteAt}
 use Rattle.machine.specs.Fetch.{instructionAt}
 use Rattle.machine.specs.Step.{done, stepOf, costOf}
 use Rattle.machine.specs.State.{wellFormed, Whole}
+use Rattle.machine.specs.Fits.{AllBytes}
 use Rattle.machine.specs.Run.{After}
 use Rattle.machine.specs.declared.Machine.{Machine}
 
@@ -63,6 +64,12 @@ abbrev pub Unbroken : {w v : World} → History w v → Type 0
 Unbroken here = Unit {0}
 Unbroken (then (step k e) rest) = Unbroken rest
 Unbroken (then (host e) rest) = ⊥
+
+-- what the host leaves as memory is bytes
+abbrev pub HostLeavesBytes : {w v : World} → History w v → Type 0
+HostLeavesBytes here = Unit {0}
+HostLeavesBytes (then (step k e) rest) = HostLeavesBytes rest
+HostLeavesBytes (then {u = u} (host e) rest) = AllBytes (u .memory) × HostLeavesBytes rest
 
 -- a moment that carries out a RESETSP
 abbrev pub Resets : {w v : World} → Moment w v → Type 0

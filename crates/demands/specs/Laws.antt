@@ -4,6 +4,8 @@ pub mod Histories
 pub mod Course
 -- what is counted over one history after another
 pub mod Joined
+-- a test at each element of a list
+pub mod Every
 -- the first test that holds has the lowest number
 pub mod Lowest
 -- a refusal's number

@@ -6,8 +6,7 @@ use Rattle.machine.specs.Fits.{Fits, Exist}
 use Rattle.machine.specs.Laws.Kept.{Formed, step-kept}
 use Rattle.machine.specs.Laws.Carries.{step-carries}
 use Rattle.machine.specs.declared.Machine.{Machine}
-use Rattle.demands.specs.History.{World, History, here, then, step, host, Unbroken}
-use Rattle.demands.specs.Double.{HostLeavesBytes}
+use Rattle.demands.specs.History.{World, History, here, then, step, host, Unbroken, HostLeavesBytes}
 
 -- any history keeps the machine whole and well formed
 pub history-kept : {w v : World} → History w v → Whole (w .machine) → Formed (w .machine) → Whole (v .machine) × Formed (v .machine)

@@ -13,6 +13,7 @@ use Rattle.machine.specs.Step.{refused, done, unless}
 use Rattle.machine.specs.Laws.Passed.{AllPass}
 use Rattle.machine.specs.declared.Machine.{Machine}
 use Rattle.demands.specs.Lowest.{Applies, First}
+use Rattle.demands.specs.Laws.Every.{every}
 
 pub clash : (b : Bool) → b ≡ true → b ≡ false → ⊥
 clash b t f = subst T (sym t ∙ f) tt
@@ -24,11 +25,7 @@ none-applies (t ∷ ts) h k (inl a) = clash (t .holds) (a .1) (h .0)
 none-applies (t ∷ ts) h k (inr a) = none-applies ts (h .1) k a
 
 -- what passes at every number of the list passes at one that applies
-abbrev pub every : (ℕ → Bool) → List Test → Bool
-every f [] = true
-every f (t ∷ ts) = both (f (t .number)) (every f ts)
-
-pub applies-listed : (f : ℕ → Bool) (ts : List Test) → T (every f ts) → (k : ℕ) → Applies k ts → T (f k)
+pub applies-listed : (f : ℕ → Bool) (ts : List Test) → T (every (λ (t : Test). f (t .number)) ts) → (k : ℕ) → Applies k ts → T (f k)
 applies-listed f [] h k a = absurd a
 applies-listed f (t ∷ ts) h k (inl a) = subst (λ (n : ℕ). T (f n)) (a .0) (both-parts (f (t .number)) _ h .0)
 applies-listed f (t ∷ ts) h k (inr a) = applies-listed f ts (both-parts (f (t .number)) _ h .1) k a

@@ -4,10 +4,9 @@ use Prim.Native.Nat.{ℕ, zero, suc}
 use lib.Dec.{T}
 use Rattle.plain.specs.Choice.{not, both}
 use Rattle.plain.specs.Laws.Choice.{both-parts, opposed}
-use Rattle.demands.specs.History.{World, codeAt, History, here, then}
+use Rattle.demands.specs.History.{World, codeAt, History, here, then, HostLeavesBytes}
 use Rattle.demands.specs.Walk.{ahead, walk}
 use Rattle.demands.specs.Flag.{movers, moves, NoneMoves}
-use Rattle.demands.specs.Double.{HostLeavesBytes}
 use Rattle.demands.specs.Laws.Walks.{stepAt, isDone, ahead-moment}
 
 unfoldable pub resting : ℕ → World → Bool

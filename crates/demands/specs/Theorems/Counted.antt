@@ -1,12 +1,9 @@
 -- The theorems about double length are about something: a sample with a 1+ between the two codes, and what they say of it.
 use mathlib.Core.Bool.{true}
-use mathlib.Core.List.{List, [], _∷_}
 use mathlib.Core.Path.{_≡_, refl, _∙_}
-use Prim.Native.Nat.{ℕ, _+_, _-_, _^_, _%_, _<_}
-use lib.Dec.{T, leb, ltb, eqb, eqb→eq, ltb→lt, lit≤}
-use Rattle.plain.specs.All.{All}
+use Prim.Native.Nat.{ℕ, _+_, _-_, _^_, _%_}
+use lib.Dec.{T, leb, ltb, eqb, eqb→eq, lit≤}
 use Rattle.plain.specs.Zeros.{padded}
-use Rattle.plain.specs.Laws.Choice.{both-parts}
 use Rattle.word.specs.Truth.{bitOf}
 use Rattle.machine.specs.State.{wellFormed, machineWith}
 use Rattle.machine.specs.Fits.{Exist}
@@ -16,17 +13,11 @@ use Rattle.demands.specs.History.{codeAt}
 use Rattle.demands.specs.Walk.{ahead, walk}
 use Rattle.demands.specs.Double.{LowThenHigh, onTop, deeper}
 use Rattle.demands.specs.Counted.{code, cells, start, atLow, atHigh}
-use Rattle.demands.specs.Laws.Flag.{every}
+use Rattle.demands.specs.Laws.Every.{every, all-below}
 use Rattle.demands.specs.Laws.Histories.{history-kept, history-carries}
 use Rattle.demands.specs.Laws.Walks.{stepAt, isDone, ahead-step}
 use Rattle.demands.specs.Laws.Resting.{resting, rested}
 use Rattle.demands.specs.Theorems.Double.{double-sum, double-difference}
-
-all-below : (limit : ℕ) (l : List ℕ) → T (every (λ x. ltb x limit) l) → All (λ x. x < limit) l
-all-below limit [] t = tt
-all-below limit (x ∷ xs) t =
-    let p = both-parts (ltb x limit) _ t in
-    (ltb→lt x limit (p .0), all-below limit xs (p .1))
 
 -- what is computed of it: its steps are carried out, with the two codes where they should be, and its operands are these
 abbrev Holds : ℕ → ℕ → Type 0
