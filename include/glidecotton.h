@@ -49,7 +49,7 @@ enum {
 
 /* Where the reader's result has what, 8 bytes each. */
 enum {
-    GLIDECOTTON_READ_BUDGET = 0  /* the image's budget: 0 to GLIDECOTTON_BUDGET */
+    GLIDECOTTON_READ_BUDGET = 0  /* the image's budget, or the default where it gives none: 0 to GLIDECOTTON_BUDGET */
 };
 
 /* Reads an image, runs it and writes the bench program's text.

@@ -1,6 +1,7 @@
 //! Image files that are not as they should be, and their neighbours that just are.
 
 use crate::assembler::image;
+use crate::budgets::stopped;
 use crate::model::state::MEMORY;
 use crate::random::Random;
 
@@ -24,7 +25,7 @@ pub fn sweep() -> Vec<Vec<u8>> {
         }
     }
     files.extend(sizes());
-    files
+    files.into_iter().map(stopped).collect()
 }
 
 /// Files whose sections have the sizes around the limits, and are otherwise whole.

@@ -6,6 +6,7 @@
 pub mod arguments;
 pub mod assembler;
 pub mod boundary;
+pub mod budgets;
 pub mod chains;
 pub mod comparison;
 pub mod damage;

@@ -1,6 +1,7 @@
 //! Images of programs, and the buffers they are run in.
 
 use crate::assembler::image;
+use crate::budgets::{stopped, GIVEN_BUDGET};
 use crate::comparison::Room;
 use crate::damage::damaged;
 use crate::fragments::{Arena, STYLES};
@@ -11,7 +12,7 @@ use crate::random::Random;
 
 /// An image of a random kind, with the kind's name.
 pub fn any_image(random: &mut Random) -> (&'static str, Vec<u8>) {
-    match random.below(100) {
+    let (kind, file) = match random.below(100) {
         0..=3 => ("image: random bytes", random_bytes(random)),
         4..=7 => ("image: random codes", random_codes(random)),
         8..=15 => {
@@ -19,7 +20,8 @@ pub fn any_image(random: &mut Random) -> (&'static str, Vec<u8>) {
             ("image: damaged", damaged(random, good))
         }
         _ => program(random),
-    }
+    };
+    (kind, stopped(file))
 }
 
 fn random_bytes(random: &mut Random) -> Vec<u8> {
@@ -85,7 +87,7 @@ fn arena(random: &mut Random) -> Arena {
 fn budget(random: &mut Random, grown: &Grown) -> Option<u32> {
     let steps = grown.steps as u32;
     if grown.ended.is_some() && random.percent(70) {
-        return random.pick(&[None, Some(1_000_000), Some(steps + 1), Some(10_000)]);
+        return random.pick(&[None, Some(1_000_000), Some(steps + 1), Some(GIVEN_BUDGET)]);
     }
     Some(match random.below(10) {
         0 => random.below(steps as usize + 1) as u32,

@@ -10,9 +10,9 @@ use Rattle.image.specs.declared.Section.{Section}
 use Rattle.image.specs.declared.Section.the-variants.{Memory, Cells, Budget}
 use Rattle.image.specs.declared.Limits.{Limits}
 
--- the budget of a file that gives none
+-- the budget of a file that gives none, which is request P10's in the place of document 01's
 abbrev pub defaultBudget : ℕ
-defaultBudget = 10000
+defaultBudget = 250000
 
 -- how many bytes a count has, and a cell
 abbrev pub countWidth : ℕ

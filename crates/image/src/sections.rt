@@ -15,7 +15,7 @@ ghost use Rattle.image.specs.Judging.{spanAt, valuesIn};
 ghost use Rattle.image.specs.Laws.Met.{saysMet};
 
 // The budget of a file that gives none.
-const DEFAULT_BUDGET: u32 = 10000;
+const DEFAULT_BUDGET: u32 = 250000;
 
 // How many bytes a count has, and a cell.
 const COUNT: usize = 4;

@@ -5,6 +5,7 @@ use std::time::Instant;
 
 use glidecotton_rust::arguments::Arguments;
 use glidecotton_rust::boundary::STAND_IN;
+use glidecotton_rust::budgets::edges;
 use glidecotton_rust::chains::any_state;
 use glidecotton_rust::comparison::{Comparison, Difference, Room};
 use glidecotton_rust::damage::sweep;
@@ -61,12 +62,13 @@ fn main() -> ExitCode {
 
 fn compare_images(comparison: &mut Comparison, random: &mut Random, images: u64) -> Result<(), Difference> {
     let mut progress = Progress::new("images", images);
-    let sweep = sweep();
-    for file in &sweep {
-        comparison.tally.kind("image: swept damage");
+    let swept = sweep().into_iter().map(|file| ("image: swept damage", file));
+    let fixed: Vec<_> = swept.chain(edges().map(|file| ("image: edge of a budget", file))).collect();
+    for (kind, file) in &fixed {
+        comparison.tally.kind(kind);
         comparison.image(file, MEMORY, Room::Plenty)?;
     }
-    for done in sweep.len() as u64..images {
+    for done in fixed.len() as u64..images {
         progress.done(done);
         let (kind, file) = any_image(random);
         comparison.tally.kind(kind);

@@ -3,7 +3,8 @@
 use super::run::MAX_BUDGET;
 use super::state::{Answer, Machine, CELLS, MEMORY};
 
-const DEFAULT_BUDGET: u64 = 10_000;
+/// The budget of a file that gives none.
+pub const DEFAULT_BUDGET: u32 = 250_000;
 
 /// What a good file spells.
 struct Image<'a> {
@@ -35,7 +36,7 @@ fn parse(file: &[u8]) -> Option<Image<'_>> {
     let (parameters, budget) = (cells(parameters), cells(budget));
     let good =
         file.is_empty() && (1..=MEMORY).contains(&memory.len()) && parameters.len() <= CELLS && budget.len() <= 1;
-    let budget = budget.first().map_or(DEFAULT_BUDGET, |&cell| cell.into());
+    let budget = u64::from(budget.first().copied().unwrap_or(DEFAULT_BUDGET));
     (good && budget <= MAX_BUDGET).then_some(Image { memory, parameters, budget })
 }
 

@@ -14,6 +14,6 @@ pub sample-file : spelled sampleImage ≡
 unfolding bytesOfList sectionOf spelled
 sample-file = refl
 
-pub default-budget : (i : Image) → i .budget ≡ [] → loadedFrom i .budget ≡ 10000
+pub default-budget : (i : Image) → i .budget ≡ [] → loadedFrom i .budget ≡ 250000
 unfolding loadedFrom
 default-budget i none = ap budgetOf none
