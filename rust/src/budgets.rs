@@ -24,8 +24,7 @@ pub fn stopped(file: Vec<u8>) -> Vec<u8> {
 
 /// Whether an image runs until its budget is spent.
 fn spends(file: &[u8]) -> bool {
-    let outcome = bench(file, &mut vec![0; MEMORY], &mut ()).outcome;
-    outcome.is_ok_and(|outcome| outcome.answer == Answer::BudgetSpent)
+    bench(file, &mut vec![0; MEMORY], &mut ()).answer() == Answer::BudgetSpent
 }
 
 /// Work that ends just before, just at and just after each of two budgets, with that budget given and with none.
@@ -44,15 +43,12 @@ fn work(steps: u32, budget: Option<u32>) -> Vec<u8> {
 
 #[cfg(test)]
 mod tests {
-    use super::{edges, stopped, work, GIVEN_BUDGET};
-    use crate::assembler::{assemble, image};
-    use crate::model::bench::bench;
-    use crate::model::state::MEMORY;
+    use super::*;
 
     /// Answer and steps.
-    fn outcome(file: &[u8]) -> String {
-        let text = bench(file, &mut vec![0; MEMORY], &mut ()).text;
-        text.split(' ').take(2).collect::<Vec<_>>().join(" ")
+    fn outcome(file: &[u8]) -> (u64, u64) {
+        let outcome = bench(file, &mut vec![0; MEMORY], &mut ()).outcome.expect("a good image");
+        (outcome.answer.number(), outcome.steps)
     }
 
     #[test]
@@ -75,20 +71,20 @@ mod tests {
     #[test]
     fn work_takes_its_steps() {
         for steps in [3, 4, 5, 6, 7, 999_999] {
-            assert_eq!(outcome(&work(steps, Some(1_000_000))), format!("0 {steps}"));
+            assert_eq!(outcome(&work(steps, Some(1_000_000))), (0, steps.into()));
         }
     }
 
     #[test]
     fn edges_lie_on_both_sides_of_each_budget() {
-        let outcomes: Vec<String> = edges().map(|file| outcome(&file)).collect();
+        let outcomes: Vec<_> = edges().map(|file| outcome(&file)).collect();
         let expected = [
-            ["0 9999", "0 9999"],
-            ["1 10000", "0 10000"],
-            ["1 10000", "0 10001"],
-            ["0 249999", "0 249999"],
-            ["1 250000", "1 250000"],
-            ["1 250000", "1 250000"],
+            [(0, 9_999), (0, 9_999)],
+            [(1, 10_000), (0, 10_000)],
+            [(1, 10_000), (0, 10_001)],
+            [(0, 249_999), (0, 249_999)],
+            [(1, 250_000), (1, 250_000)],
+            [(1, 250_000), (1, 250_000)],
         ];
         assert_eq!(outcomes, expected.concat());
     }

@@ -72,7 +72,7 @@ impl Comparison {
             expected[..text.len()].copy_from_slice(text);
         }
         let expected_number = if fits { text.len() as u64 } else { REFUSED };
-        self.tally.answer(if fits { answer_of(&model.outcome) } else { Answer::BadInput });
+        self.tally.answer(if fits { model.answer() } else { Answer::BadInput });
 
         let number = PROVED.bench(image, &mut self.theirs, &mut out);
         if number == expected_number && out == expected && self.theirs == self.ours {
@@ -129,10 +129,6 @@ impl Comparison {
             first_difference("memory", memory, &self.theirs),
         )))
     }
-}
-
-fn answer_of(outcome: &Result<crate::model::run::Outcome, Answer>) -> Answer {
-    outcome.as_ref().map_or_else(|&refused| refused, |outcome| outcome.answer)
 }
 
 /// The bytes cut or filled up to a length.

@@ -12,6 +12,13 @@ pub struct Bench {
     pub outcome: Result<Outcome, Answer>,
 }
 
+impl Bench {
+    /// The run's answer, or the one that kept it from running.
+    pub fn answer(&self) -> Answer {
+        self.outcome.map_or_else(|refused| refused, |outcome| outcome.answer)
+    }
+}
+
 /// Reads the image, runs it and writes the report.
 pub fn bench(image: &[u8], memory: &mut [u8], observer: &mut impl Observer) -> Bench {
     match load_image(image, memory) {
