@@ -1,6 +1,6 @@
-//! Compiles the plain C interpreter and finds the proved library.
+//! Compiles the plain C interpreter and the painted stack, and finds the proved libraries.
 //!
-//! Without the proved library the C interpreter stands in under the proved names, so that the model's tests need no
+//! Without the proved libraries the C interpreter stands in under the proved names, so that the model's tests need no
 //! toolchain; the programs that compare and measure refuse to take a stand-in for the real thing.
 
 use std::env;
@@ -8,11 +8,15 @@ use std::path::{Path, PathBuf};
 use std::process::Command;
 
 const PLAIN: &str = "c/plain.c";
-const PROVED: [&str; 2] = ["../target/staticlib/libglidecotton.a", "../target/staticlib/libhost.a"];
+const PAINTED: &str = "c/painted.c";
+const HEADERS: &str = "../include";
+const PROVED: [&str; 3] =
+    ["../target/staticlib/libglidecotton.a", "../target/staticlib/libhost.a", "../target/staticlib/libreader.a"];
 
 fn main() {
     let out = PathBuf::from(env::var("OUT_DIR").expect("cargo sets OUT_DIR"));
     println!("cargo:rerun-if-changed=c");
+    println!("cargo:rerun-if-changed={HEADERS}");
     for library in PROVED {
         println!("cargo:rerun-if-changed={library}");
     }
@@ -20,11 +24,20 @@ fn main() {
     println!("cargo:rustc-check-cfg=cfg(stand_in)");
     println!("cargo:rustc-link-search=native={}", out.display());
 
-    archive(&out, "plain", &[]);
+    archive(&out, "plain", PLAIN, &[]);
     println!("cargo:rustc-link-lib=static=plain");
+    archive(&out, "painted", PAINTED, &["-I", HEADERS]);
+    println!("cargo:rustc-link-lib=static=painted");
+    // Every name is bound before the first call, or the linker's own work would be seen on the painted stack.
+    println!("cargo:rustc-link-arg-bins=-Wl,-z,now");
 
     if env::var_os("GLIDECOTTON_STAND_IN").is_some() || !PROVED.iter().all(|library| Path::new(library).exists()) {
-        archive(&out, "glidecotton", &["-Dplain_bench=glidecotton_bench", "-Dplain_run_state=glidecotton_run_state"]);
+        archive(
+            &out,
+            "glidecotton",
+            PLAIN,
+            &["-Dplain_bench=glidecotton_bench", "-Dplain_run_state=glidecotton_run_state"],
+        );
         println!("cargo:rustc-cfg=stand_in");
     } else {
         for library in PROVED.map(Path::new) {
@@ -32,17 +45,18 @@ fn main() {
             std::fs::copy(library, out.join(name)).expect("the proved library can be read");
         }
         println!("cargo:rustc-link-lib=static=host");
+        println!("cargo:rustc-link-lib=static=reader");
     }
     println!("cargo:rustc-link-lib=static=glidecotton");
 }
 
-/// Compiles the C interpreter with some names changed into a static library.
-fn archive(out: &Path, name: &str, renames: &[&str]) {
+/// Compiles a C file with some more options into a static library.
+fn archive(out: &Path, name: &str, source: &str, options: &[&str]) {
     let object = out.join(format!("{name}.o"));
     let library = out.join(format!("lib{name}.a"));
     let mut compile = Command::new("cc");
-    compile.args(["-O3", "-std=c11", "-Wall", "-Wextra", "-Werror"]).args(renames);
-    finish(compile.args(["-c", PLAIN, "-o"]).arg(&object));
+    compile.args(["-O3", "-std=c11", "-Wall", "-Wextra", "-Werror"]).args(options);
+    finish(compile.args(["-c", source, "-o"]).arg(&object));
     finish(Command::new("ar").arg("rcs").arg(&library).arg(&object));
 }
 

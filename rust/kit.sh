@@ -1,9 +1,10 @@
-# Sourced by prepare.sh on a machine that is not x86-64, the one kind that the toolchain writes code for: a folder of links to
-# the toolchain, in which alone the compiler is another, so that the library is the proved module in this machine's code.
+# Sourced by prepare.sh: a folder of links to the toolchain, in which alone the compiler is another. The toolchain writes x86-64 code
+# alone; this compiler makes the library of the proved module in this machine's code, and leaves the sizes of its frames in $frames.
 from=${RATTLE_HOME:-$(dirname "$(dirname "$(readlink -f "$(command -v rt)")")")}
 kit=$PWD/target/kit
 inner=on/$(uname -m)
 tools=$inner/toolchain
+frames=$kit/$tools/bin/frames.su
 
 # A link for each file that does not stand there yet.
 link_rest() {

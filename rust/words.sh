@@ -1,4 +1,4 @@
-# Sourced by compare and speed: looks at their words before anything is proved or built. The script has set $usage, $flags (the
+# Sourced by compare, speed and stack: looks at their words before anything is proved or built. The script has set $usage, $flags (the
 # options that stand alone) and $numbers (those that a number follows).
 refuse() {
     echo "rust/${0##*/}: $*; --help shows the usage" >&2

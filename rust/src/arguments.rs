@@ -1,5 +1,5 @@
-//! Command line options of the programs: `--name` and `--name word`. The scripts `compare` and `speed` look at what a user
-//! gave before anything is built; what reaches the programs otherwise is refused here.
+//! Command line options of the programs: `--name` and `--name word`. The scripts `compare`, `speed` and `stack` look at what a
+//! user gave before anything is built; what reaches the programs otherwise is refused here.
 
 use std::process::ExitCode;
 

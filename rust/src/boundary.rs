@@ -1,6 +1,8 @@
-//! The door to the two machines that are not the model: the proved library and the plain C interpreter.
+//! The door to the two machines that are not the model, the proved libraries and the plain C interpreter, and to the painted stack.
 //!
 //! Nothing outside this file is unsafe.
+
+use std::sync::Mutex;
 
 /// The proved machine was not linked: the plain C interpreter answers under its names.
 pub const STAND_IN: bool = cfg!(stand_in);
@@ -14,6 +16,20 @@ extern "C" {
     fn glidecotton_run_state(state: *mut u8, state_len: usize, memory: *mut u8, memory_len: usize, budget: u64, result: *mut u8, result_len: usize) -> u64;
     fn plain_bench(image: *const u8, image_len: usize, memory: *mut u8, memory_len: usize, out: *mut u8, out_len: usize) -> u64;
     fn plain_run_state(state: *mut u8, state_len: usize, memory: *mut u8, memory_len: usize, budget: u64, result: *mut u8, result_len: usize) -> u64;
+    fn painted_call(function: *const (), eight_words: *const u64, painted_with: u8, its_answer: *mut u64) -> u64;
+    static promised_stack: u64;
+}
+
+#[cfg(not(stand_in))]
+#[rustfmt::skip]
+extern "C" {
+    fn glidecotton_read_image(image: *const u8, image_len: usize, memory: *mut u8, memory_len: usize, state: *mut u8, state_len: usize, result: *mut u8, result_len: usize) -> u64;
+}
+
+/// Only the stack is asked of the reader, and of no stand-in.
+#[cfg(stand_in)]
+extern "C" fn glidecotton_read_image() -> u64 {
+    unreachable!("a stand-in has no reader")
 }
 
 /// A machine behind the boundary.
@@ -49,5 +65,95 @@ impl Foreign {
                 result.len(),
             )
         }
+    }
+}
+
+/// What a call on a painted stack gave.
+pub struct Painted {
+    pub answer: u64,
+    /// Bytes of stack that it took, as `c/painted.c` counts them.
+    pub stack: u64,
+}
+
+/// The bytes of stack that `glidecotton.h` says are enough for a call.
+pub fn promise() -> u64 {
+    // SAFETY: a constant of `c/painted.c`.
+    unsafe { promised_stack }
+}
+
+/// Runs an image on a stack painted with a byte, by the proved machine.
+pub fn painted_bench(paint: u8, image: &[u8], memory: &mut [u8], out: &mut [u8]) -> Painted {
+    let words = [lent(image), lent_to_write(memory), lent_to_write(out), [0, 0]];
+    // SAFETY: each pointer comes with the length of its own slice, no two slices overlap, and the callee keeps none.
+    unsafe { painted(glidecotton_bench as *const (), words, paint) }
+}
+
+/// Reads an image on a stack painted with a byte, by the proved reader.
+pub fn painted_read_image(paint: u8, image: &[u8], memory: &mut [u8], state: &mut [u8], result: &mut [u8]) -> Painted {
+    let words = [lent(image), lent_to_write(memory), lent_to_write(state), lent_to_write(result)];
+    // SAFETY: as above.
+    unsafe { painted(glidecotton_read_image as *const (), words, paint) }
+}
+
+/// Runs a state on a stack painted with a byte, by the proved machine.
+pub fn painted_run_state(paint: u8, state: &mut [u8], memory: &mut [u8], budget: u64, result: &mut [u8]) -> Painted {
+    let [result, length] = lent_to_write(result);
+    let words = [lent_to_write(state), lent_to_write(memory), [budget, result], [length, 0]];
+    // SAFETY: as above.
+    unsafe { painted(glidecotton_run_state as *const (), words, paint) }
+}
+
+fn lent(bytes: &[u8]) -> [u64; 2] {
+    [bytes.as_ptr() as u64, bytes.len() as u64]
+}
+
+fn lent_to_write(bytes: &mut [u8]) -> [u64; 2] {
+    [bytes.as_mut_ptr() as u64, bytes.len() as u64]
+}
+
+/// There is one painted stack.
+static STACK: Mutex<()> = Mutex::new(());
+
+/// The function must take its part of the eight words as a C function does, and be safe to call with them.
+unsafe fn painted(function: *const (), words: [[u64; 2]; 4], paint: u8) -> Painted {
+    let _alone = STACK.lock();
+    let mut answer = 0;
+    let stack = painted_call(function, words.as_flattened().as_ptr(), paint, &mut answer);
+    Painted { answer, stack }
+}
+
+#[cfg(test)]
+mod tests {
+    use super::*;
+
+    /// Fills so many bytes of its frame with the byte that it is handed.
+    extern "C" fn fills<const BYTES: usize>(byte: u64) -> u64 {
+        std::hint::black_box([byte as u8; BYTES]).len() as u64
+    }
+
+    fn stack_of(function: extern "C" fn(u64) -> u64, byte: u8, paint: u8) -> u64 {
+        // SAFETY: the function takes one word, and every word will do.
+        unsafe { painted(function as *const (), [[byte.into(), 0], [0; 2], [0; 2], [0; 2]], paint).stack }
+    }
+
+    #[test]
+    fn the_stack_of_a_call_is_seen() {
+        let (small, large) = (stack_of(fills::<100>, 1, 0xA5), stack_of(fills::<5000>, 1, 0xA5));
+        assert!((100..2_000).contains(&small), "{small}");
+        assert!((small + 4_900..small + 20_000).contains(&large), "{small} and {large}");
+    }
+
+    #[test]
+    fn what_is_written_in_the_colour_of_the_paint_is_seen_on_another() {
+        let on_its_own = stack_of(fills::<5000>, 0xA5, 0xA5);
+        let on_another = stack_of(fills::<5000>, 0xA5, 0x5A);
+        assert!(on_its_own <= on_another && on_another >= 5_000, "{on_its_own} and {on_another}");
+    }
+
+    #[test]
+    fn a_call_gives_its_answer() {
+        // SAFETY: as above.
+        let painted = unsafe { painted(fills::<7> as *const (), [[0; 2]; 4], 0xA5) };
+        assert_eq!(painted.answer, 7);
     }
 }

@@ -1,36 +1,61 @@
-//! Comparisons that begin with a state in place of an image.
+//! Runs that begin with a state in place of an image.
 
-use crate::comparison::{Comparison, Difference, Lengths};
 use crate::fragments::{Arena, STYLES};
 use crate::grower::Grower;
 use crate::model::state::{Machine, MEMORY};
 use crate::random::Random;
+use crate::state_bytes::{RESULT_BYTES, STATE_BYTES};
 use crate::states::{broken, well_formed, CLAUSES};
 
 /// Code of a state's runs lies here.
 const ARENA: Arena = Arena { start: 0, length: 4096 };
 
-/// One comparison of a random kind; gives the number of runs it took.
-pub fn any_state(comparison: &mut Comparison, random: &mut Random) -> Result<u64, Difference> {
+/// The lengths of the buffers lent to one call of `run_state`.
+#[derive(Clone, Copy)]
+pub struct Lengths {
+    pub state: usize,
+    pub memory: usize,
+    pub result: usize,
+}
+
+impl Lengths {
+    pub const RIGHT: Lengths = Lengths { state: STATE_BYTES, memory: MEMORY, result: RESULT_BYTES };
+}
+
+/// What takes each state through a run, and leaves machine and memory as the run leaves them.
+pub trait Runner {
+    type Failure;
+
+    fn state(
+        &mut self,
+        kind: &'static str,
+        machine: &mut Machine,
+        memory: &mut Vec<u8>,
+        budget: u64,
+        lengths: Lengths,
+    ) -> Result<(), Self::Failure>;
+}
+
+/// States of a random kind; gives the number of runs they took.
+pub fn any_state<R: Runner>(runner: &mut R, random: &mut Random) -> Result<u64, R::Failure> {
     match random.below(10) {
-        0 => one_clause_broken(comparison, random),
-        1 => wrong_call(comparison, random),
-        2..=5 => any_instruction(comparison, random),
-        _ => chain(comparison, random),
+        0 => one_clause_broken(runner, random),
+        1 => wrong_call(runner, random),
+        2..=5 => any_instruction(runner, random),
+        _ => chain(runner, random),
     }
 }
 
-fn one_clause_broken(comparison: &mut Comparison, random: &mut Random) -> Result<u64, Difference> {
+fn one_clause_broken<R: Runner>(runner: &mut R, random: &mut Random) -> Result<u64, R::Failure> {
     let clause = random.below(CLAUSES.len());
-    comparison.tally.kind(CLAUSES[clause]);
     let mut machine = broken(random, clause);
     let mut memory = memory(random);
-    comparison.state(&mut machine, &mut memory, 10, Lengths::RIGHT)?;
+    runner.state(CLAUSES[clause], &mut machine, &mut memory, 10, Lengths::RIGHT)?;
     Ok(1)
 }
 
 /// A good state with one buffer or the budget not as it should be.
-fn wrong_call(comparison: &mut Comparison, random: &mut Random) -> Result<u64, Difference> {
+fn wrong_call<R: Runner>(runner: &mut R, random: &mut Random) -> Result<u64, R::Failure> {
     let mut machine = well_formed(random);
     let mut memory = memory(random);
     let mut lengths = Lengths::RIGHT;
@@ -53,31 +78,29 @@ fn wrong_call(comparison: &mut Comparison, random: &mut Random) -> Result<u64, D
             "state: wrong budget"
         }
     };
-    comparison.tally.kind(kind);
-    comparison.state(&mut machine, &mut memory, budget, lengths)?;
+    runner.state(kind, &mut machine, &mut memory, budget, lengths)?;
     Ok(1)
 }
 
 /// Any bytes at the program counter of any state: where several refusals apply, it is seen which is given.
-fn any_instruction(comparison: &mut Comparison, random: &mut Random) -> Result<u64, Difference> {
-    comparison.tally.kind("state: any instruction");
+fn any_instruction<R: Runner>(runner: &mut R, random: &mut Random) -> Result<u64, R::Failure> {
     let mut machine = well_formed(random);
     let mut memory = memory(random);
     let at = if random.percent(10) { MEMORY - random.between(1, 5) } else { random.below(MEMORY) };
     machine.program_counter = at as u32;
     memory[at] = if random.percent(90) { random.below(0x3E) as u8 } else { random.byte() };
-    comparison.state(&mut machine, &mut memory, random.between(0, 2) as u64, Lengths::RIGHT)?;
+    let budget = random.between(0, 2) as u64;
+    runner.state("state: any instruction", &mut machine, &mut memory, budget, Lengths::RIGHT)?;
     Ok(1)
 }
 
 /// Several runs of one state, one after another, the memory changed in between.
-fn chain(comparison: &mut Comparison, random: &mut Random) -> Result<u64, Difference> {
+fn chain<R: Runner>(runner: &mut R, random: &mut Random) -> Result<u64, R::Failure> {
     let mut machine = if random.percent(15) { Machine::fresh() } else { well_formed(random) };
     let mut memory = memory(random);
     machine.program_counter = if random.percent(2) { random.u32() } else { random.below(ARENA.length) as u32 };
     let runs = random.between(1, 5) as u64;
     for _ in 0..runs {
-        comparison.tally.kind("state: run in a chain");
         let (_, style) = random.pick(&STYLES);
         let target = random.between(1, 120) as u64;
         let copy: Box<[u8; MEMORY]> = memory.clone().into_boxed_slice().try_into().expect("a memory's length");
@@ -86,7 +109,7 @@ fn chain(comparison: &mut Comparison, random: &mut Random) -> Result<u64, Differ
             memory[address] = byte;
         }
         let budget = grown.steps.saturating_sub(random.below(2) as u64) + random.below(3) as u64;
-        comparison.state(&mut machine, &mut memory, budget, Lengths::RIGHT)?;
+        runner.state("state: run in a chain", &mut machine, &mut memory, budget, Lengths::RIGHT)?;
         let elsewhere = random.below(MEMORY);
         memory[elsewhere] = random.byte();
         // A machine that was refused would be refused again: the host moves it on.

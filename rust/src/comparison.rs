@@ -1,6 +1,7 @@
 //! Both machines on the same input, every byte compared.
 
 use crate::boundary::PROVED;
+use crate::chains::{Lengths, Runner};
 use crate::model::bench::bench;
 use crate::model::run::run;
 use crate::model::state::{Answer, Machine, MEMORY};
@@ -26,16 +27,15 @@ pub enum Room {
     Short(usize),
 }
 
-/// The lengths of the buffers lent to one call of `run_state`.
-#[derive(Clone, Copy)]
-pub struct Lengths {
-    pub state: usize,
-    pub memory: usize,
-    pub result: usize,
-}
-
-impl Lengths {
-    pub const RIGHT: Lengths = Lengths { state: STATE_BYTES, memory: MEMORY, result: RESULT_BYTES };
+impl Room {
+    /// Bytes that are lent for a text of so many.
+    pub fn bytes(self, text: usize) -> usize {
+        match self {
+            Room::Plenty => OUT,
+            Room::Exact => text,
+            Room::Short(by) => text.saturating_sub(by),
+        }
+    }
 }
 
 pub struct Comparison {
@@ -60,11 +60,7 @@ impl Comparison {
 
         let model = bench(image, &mut self.ours, &mut self.tally);
         let text = model.text.as_bytes();
-        let out_length = match room {
-            Room::Plenty => OUT,
-            Room::Exact => text.len(),
-            Room::Short(by) => text.len().saturating_sub(by),
-        };
+        let out_length = room.bytes(text.len());
         let mut expected = self.noise[..out_length].to_vec();
         let mut out = expected.clone();
         let fits = memory_length == MEMORY && text.len() <= out_length;
@@ -87,16 +83,22 @@ impl Comparison {
             first_difference("memory", &self.ours, &self.theirs),
         )))
     }
+}
+
+impl Runner for Comparison {
+    type Failure = Difference;
 
     /// Runs a state on both, and leaves machine and memory as the model left them.
-    pub fn state(
+    fn state(
         &mut self,
+        kind: &'static str,
         machine: &mut Machine,
         memory: &mut Vec<u8>,
         budget: u64,
         lengths: Lengths,
     ) -> Result<(), Difference> {
-        let before = lent(spell(machine), lengths.state);
+        self.tally.kind(kind);
+        let before = lent(machine, lengths.state);
         let mut theirs = before.clone();
         let mut their_result = self.noise[..lengths.result].to_vec();
         let mut our_result = their_result.clone();
@@ -131,8 +133,9 @@ impl Comparison {
     }
 }
 
-/// The bytes cut or filled up to a length.
-fn lent(mut bytes: Vec<u8>, length: usize) -> Vec<u8> {
+/// A state's bytes cut or filled up to a length.
+pub fn lent(machine: &Machine, length: usize) -> Vec<u8> {
+    let mut bytes = spell(machine);
     bytes.resize(length, 0xA5);
     bytes
 }

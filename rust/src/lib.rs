@@ -1,7 +1,7 @@
 //! A second opinion on the machine.
 //!
-//! `model` is written from the rules alone; `boundary` is the door to the proved library and to the plain C
-//! interpreter; the rest makes images and states, compares what the two machines do, and measures their speed.
+//! `model` is written from the rules alone; `boundary` is the door to the proved libraries and to the plain C
+//! interpreter; the rest makes images and states, compares what the two machines do, and measures their speed and their stack.
 
 pub mod arguments;
 pub mod assembler;
@@ -11,9 +11,11 @@ pub mod chains;
 pub mod comparison;
 pub mod damage;
 pub mod fragments;
+pub mod frames;
 pub mod grower;
 pub mod model;
 pub mod operands;
+pub mod painted;
 pub mod programs;
 pub mod progress;
 pub mod random;

@@ -1,4 +1,4 @@
-//! A sign of life on standard error while many inputs are compared.
+//! A sign of life on standard error while there is much to do.
 
 use std::time::{Duration, Instant};
 
@@ -20,7 +20,7 @@ impl Progress {
     /// Tells how many are done, unless it was told just now.
     pub fn done(&mut self, count: u64) {
         if self.told.elapsed() >= EVERY {
-            eprintln!("{} of {} {} compared", grouped(count), grouped(self.all), self.what);
+            eprintln!("{} of {} {}", grouped(count), grouped(self.all), self.what);
             self.told = Instant::now();
         }
     }

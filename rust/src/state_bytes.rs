@@ -11,6 +11,7 @@ const CATCH: usize = CATCH_CELLS * CELL + 2 * POINTER + CELL;
 pub const STATE_BYTES: usize =
     2 * (CELLS * CELL + POINTER) + (FRAMES + 1) * FRAME + POINTER + (CATCHES + 1) * CATCH + POINTER + 2 * CELL;
 pub const RESULT_BYTES: usize = 3 * POINTER;
+pub const READ_RESULT_BYTES: usize = POINTER;
 
 const _: () = assert!(STATE_BYTES == 3528);
 

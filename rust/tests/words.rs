@@ -3,7 +3,7 @@
 
 use std::process::{Command, Output};
 
-const SCRIPTS: [&str; 2] = ["./compare", "./speed"];
+const SCRIPTS: [&str; 3] = ["./compare", "./speed", "./stack"];
 
 fn ended(script: &str, words: &[&str]) -> Output {
     Command::new(script).args(words).output().expect("the script starts")
@@ -24,8 +24,10 @@ fn unknown_words_are_refused() {
             assert_refused(script, &[word], &format!("there is no option '{word}'"));
         }
     }
-    assert_refused("./compare", &["--short", "--seed", "7", "8"], "there is no option '8'");
-    assert_refused("./compare", &["--no-counting"], "there is no option '--no-counting'");
+    for script in ["./compare", "./stack"] {
+        assert_refused(script, &["--short", "--seed", "7", "8"], "there is no option '8'");
+        assert_refused(script, &["--no-counting"], "there is no option '--no-counting'");
+    }
     assert_refused("./speed", &["--no-counting", "--short"], "there is no option '--short'");
 }
 
@@ -38,8 +40,18 @@ fn numbers_are_looked_at() {
         &["--states", "1e6"],
         &["--seed", "1000000000000000000"],
     ] {
-        assert_refused("./compare", words, &format!("{} takes a number of at most 18 digits", words[0]));
+        for script in ["./compare", "./stack"] {
+            assert_refused(script, words, &format!("{} takes a number of at most 18 digits", words[0]));
+        }
     }
+}
+
+#[test]
+fn the_stack_of_a_stand_in_is_not_measured() {
+    let output = Command::new("./stack").env("GLIDECOTTON_STAND_IN", "1").output().expect("the script starts");
+    let said = String::from_utf8_lossy(&output.stderr);
+    assert!(said.starts_with("rust/stack: a stand-in has nothing to measure"), "{said}");
+    assert_eq!((output.status.code(), output.stdout.len()), (Some(2), 0));
 }
 
 #[test]

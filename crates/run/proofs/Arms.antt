@@ -251,11 +251,9 @@ module _ {mem₀ : List ℕ} {m₀ : Machine} {budget : ℕ} {mem cells returns 
         let top = found .round .p-within in
         le-ltb cellsDepth (g .p - 1 + 1) (omega (arith, depth few))
 
-    pub fetch-acts : OneOf 0x2D 0x2F 0x31 code → {w : Width} → w ≡ widthOf code → Does (reachOf 1 w cells (g .p)) (fetchedBy w)
+    pub fetch-acts : OneOf 0x2D 0x2F 0x31 code → Does (reachOf 1 (widthOf code) cells (g .p)) (fetchedBy (widthOf code))
     unfolding carried rowOf reachOf
-    fetch-acts key {w} ew =
-        subst⁻¹ (λ (v : Width). Does (reachOf 1 v cells (g .p)) (fetchedBy v)) ew
-        (record { is = go (ltb (g .p) 1) refl (placeOf (widthOf code) (getD cells (g .p - 1) 0)) refl })
+    fetch-acts key = record { is = go (ltb (g .p) 1) refl (placeOf (widthOf code) (getD cells (g .p - 1) 0)) refl }
       where
         e : Spells code (FETCH (widthOf code)) 1
         e = fetch-spelled code key
@@ -300,11 +298,9 @@ module _ {mem₀ : List ℕ} {m₀ : Machine} {budget : ℕ} {mem cells returns 
     same-frame : set frames (g .s) (getD frames (g .s) noFrame) ≡ frames
     same-frame = set-getD frames (g .s) noFrame
 
-    pub store-acts : OneOf 0x2E 0x30 0x32 code → {w : Width} → w ≡ widthOf code → Does (reachOf 2 w cells (g .p)) (storedBy w)
+    pub store-acts : OneOf 0x2E 0x30 0x32 code → Does (reachOf 2 (widthOf code) cells (g .p)) (storedBy (widthOf code))
     unfolding carried rowOf reachOf
-    store-acts key {w} ew =
-        subst⁻¹ (λ (v : Width). Does (reachOf 2 v cells (g .p)) (storedBy v)) ew
-        (record { is = go (ltb (g .p) 2) refl (placeOf (widthOf code) (getD cells (g .p - 1) 0)) refl })
+    store-acts key = record { is = go (ltb (g .p) 2) refl (placeOf (widthOf code) (getD cells (g .p - 1) 0)) refl }
       where
         e : Spells code (STORE (widthOf code)) 2
         e = store-spelled code key

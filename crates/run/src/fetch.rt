@@ -21,7 +21,7 @@ fn literal_byte(mem: &[u8], counter: u32) -> Fetched
     }
     Fetched::Instruction(
         0x34,
-        memory::literal_byte(mem, at + 1),
+        memory::read_byte(mem, at + 1),
         std::num::wrapping_add_u32(counter, 2),
     )
 }
@@ -36,7 +36,7 @@ fn literal_word(mem: &[u8], counter: u32) -> Fetched
     }
     Fetched::Instruction(
         0x35,
-        memory::literal_word(mem, at + 1),
+        memory::read_word(mem, at + 1),
         std::num::wrapping_add_u32(counter, 3),
     )
 }
@@ -51,7 +51,7 @@ fn literal_long(mem: &[u8], counter: u32) -> Fetched
     }
     Fetched::Instruction(
         0x36,
-        memory::literal_long(mem, at + 1),
+        memory::read_long(mem, at + 1),
         std::num::wrapping_add_u32(counter, 5),
     )
 }
@@ -82,7 +82,7 @@ fn branch(mem: &[u8], counter: u32, code: u8) -> Fetched
         return Fetched::Refused(3);
     }
     let next = std::num::wrapping_add_u32(counter, 2);
-    let offset = memory::branch_offset(code, mem[at + 1]);
+    let offset = memory::branch_offset(memory::read_word(mem, at));
     Fetched::Instruction(code, std::num::wrapping_add_u32(next, offset), next)
 }
 

@@ -1,7 +1,6 @@
 // Where an access lies.
 use machine::Machine;
 use machine::Place;
-use machine::Width;
 ghost use mathlib.Core.Path.{_≡_};
 ghost use Prim.Native.Nat.{_+_, _-_, _/_, _<_, _≤_, _^_};
 ghost use lib.Dec.{leb};
@@ -10,6 +9,7 @@ ghost use Rattle.machine.specs.Limits.{memoryLength};
 ghost use Rattle.machine.specs.Memory.{placeOf, isListedCell, firstLocal, lastLocal, firstCell, lastCell};
 ghost use Rattle.machine.specs.declared.Place.the-variants.{Memory, Local, Cell, Nowhere};
 ghost use Rattle.machine.specs.declared.Width.the-variants.{Long};
+ghost use Rattle.run.specs.Accesses.{widthOf};
 
 fn in_memory(at: usize, size: usize) -> Place
     requires { ⌜ (at < 2 ^ 32) × (size ≤ 4) ⌝ }
@@ -40,14 +40,17 @@ fn cell_at(at: usize) -> Place
 }
 
 // In memory, in a local cell, in an exception cell or nowhere: the one place where an access is judged.
-pub(crate) fn place_of(width: Width, address: u32) -> Place
-    ensures { λ r. ⌜ r ≡ placeOf width address ⌝ }
+// The width is told by the code, a number: docs/DECISIONS.md.
+pub(crate) fn place_of(code: u8, address: u32) -> Place
+    ensures { λ r. ⌜ r ≡ placeOf (widthOf code) address ⌝ }
 {
     let at = address as usize;
-    match width {
-        Width::Byte => in_memory(at, 1),
-        Width::Word => in_memory(at, 2),
-        Width::Long => long_place(at),
+    match code {
+        0x2D => long_place(at),
+        0x2E => long_place(at),
+        0x2F => in_memory(at, 2),
+        0x30 => in_memory(at, 2),
+        _ => in_memory(at, 1),
     }
 }
 

@@ -238,15 +238,14 @@ pub(crate) fn rounds(mem: &mut [u8], start: Machine, budget: u32) -> Ran
             }
             // FETCH.L, FETCH.W, FETCH.B ( address -- value )
             0x2D | 0x2F | 0x31 => {
-                let width = access::width_of(code);
-                let reached = access::reach(&cells, 1, width, p);
+                let reached = access::reach(&cells, 1, code, p);
                 let Reached::At(spot) = reached else {
                     regs = leave::by_reach(regs, reached);
                     continue;
                 };
                 match spot {
                     Spot::Memory(at) => {
-                        cells[p - 1] = memory::read_number(mem, at, width);
+                        cells[p - 1] = memory::read_number(mem, at, code);
                         regs.counter = next;
                         regs = tally::counted(regs, price::price(&costs, code));
                     }
@@ -268,15 +267,14 @@ pub(crate) fn rounds(mem: &mut [u8], start: Machine, budget: u32) -> Ran
             }
             // STORE.L, STORE.W, STORE.B ( value address -- )
             0x2E | 0x30 | 0x32 => {
-                let width = access::width_of(code);
-                let reached = access::reach(&cells, 2, width, p);
+                let reached = access::reach(&cells, 2, code, p);
                 let Reached::At(spot) = reached else {
                     regs = leave::by_reach(regs, reached);
                     continue;
                 };
                 match spot {
                     Spot::Memory(at) => {
-                        memory::write_number(mem, at, width, cells[p - 2]);
+                        memory::write_number(mem, at, code, cells[p - 2]);
                         regs.p = p - 2;
                         regs.counter = next;
                         regs = tally::counted(regs, price::price(&costs, code));

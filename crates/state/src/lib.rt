@@ -38,9 +38,9 @@ pub fn take(state: &[u8]) -> Taken
     let mut cells = [0u32; Machine::CELLS];
     reading::fill(state, places::STATE_CELLS, &mut cells);
     let p = reading::pointer_at(state, places::STATE_P);
-    let links = reading::links_at(state, places::STATE_LINKS);
     let counter = reading::cell_at(state, places::STATE_COUNTER);
     let flag = reading::cell_at(state, places::STATE_FLAG);
+    let links = reading::links_at(state, places::STATE_LINKS);
     let machine = Machine {
         cells,
         p,

@@ -77,8 +77,12 @@ fn frames_at(state: &[u8], from: usize) -> [Frame; Links::FRAMES]
     requires { ⌜ from + array framesCount layout.frame .width ≤ length (now state) ⌝ }
     ensures { λ r. ⌜ PartStands (array framesCount layout.frame) (now (state .entry)) from r ⌝ }
 {
-    let fresh = Links::fresh();
-    let mut frames = fresh.frames;
+    let blank = Frame {
+        locals: [0u32; Frame::LOCALS],
+        r: 0,
+        address: 0,
+    };
+    let mut frames = [blank; Links::FRAMES];
     let mut i = 0;
     while i < Links::FRAMES {
         frames[i] = frame_at(state, from + i * places::FRAME);
@@ -91,8 +95,13 @@ fn levels_at(state: &[u8], from: usize) -> [Level; Links::LEVELS]
     requires { ⌜ from + array levelsCount layout.level .width ≤ length (now state) ⌝ }
     ensures { λ r. ⌜ PartStands (array levelsCount layout.level) (now (state .entry)) from r ⌝ }
 {
-    let fresh = Links::fresh();
-    let mut levels = fresh.levels;
+    let blank = Level {
+        cells: [0u32; Level::CELLS],
+        s: 0,
+        p: 0,
+        address: 0,
+    };
+    let mut levels = [blank; Links::LEVELS];
     let mut i = 0;
     while i < Links::LEVELS {
         levels[i] = level_at(state, from + i * places::LEVEL);
@@ -108,10 +117,11 @@ pub(crate) fn links_at(state: &[u8], at: usize) -> Links
     let mut returns = [0u32; Links::RETURNS];
     fill(state, at, &mut returns);
     let r = pointer_at(state, at + places::LINKS_R);
-    let frames = frames_at(state, at + places::LINKS_FRAMES);
     let s = pointer_at(state, at + places::LINKS_S);
     let levels = levels_at(state, at + places::LINKS_LEVELS);
     let e = pointer_at(state, at + places::LINKS_E);
+    // the frames last: read earlier, the compiler would keep them twice
+    let frames = frames_at(state, at + places::LINKS_FRAMES);
     Links {
         returns,
         r,

@@ -61,7 +61,7 @@ fn main() -> ExitCode {
 }
 
 fn compare_images(comparison: &mut Comparison, random: &mut Random, images: u64) -> Result<(), Difference> {
-    let mut progress = Progress::new("images", images);
+    let mut progress = Progress::new("images compared", images);
     let swept = sweep().into_iter().map(|file| ("image: swept damage", file));
     let fixed: Vec<_> = swept.chain(edges().map(|file| ("image: edge of a budget", file))).collect();
     for (kind, file) in &fixed {
@@ -81,7 +81,7 @@ fn compare_images(comparison: &mut Comparison, random: &mut Random, images: u64)
 }
 
 fn compare_states(comparison: &mut Comparison, random: &mut Random, states: u64) -> Result<(), Difference> {
-    let mut progress = Progress::new("states", states);
+    let mut progress = Progress::new("states compared", states);
     let mut runs = 0;
     while runs < states {
         progress.done(runs);

@@ -1,4 +1,4 @@
--- Made by .ci/named from literal_word.rules: c287b33d10dd8486 cbc98d1f72685bb8
+-- Made by .ci/named from literal_word.rules: 3bcd7b0e7b397e85 b9278571f7871bc2
 -- The code's entry says how many bytes follow.
 use mathlib.Core.Path.{refl}
 use native.Mathlib.Omega.{arith}
@@ -15,18 +15,18 @@ returns : tie.Need-returns
 unfolding entryAt table
 returns c = λ stands. cut (c .before .before .args .mem .now) (c .before .before .args .counter) 0x35 (number 2) stands refl (c .if1 .taken)
 
-add-literal-word : tie.Need-add-literal-word
-add-literal-word c = search needs
+add-read-word : tie.Need-add-read-word
+add-read-word c = search needs
 
-literal-word-requires : tie.Need-literal-word-requires
-literal-word-requires c κs = search needs
+read-word-requires : tie.Need-read-word-requires
+read-word-requires c κs = search needs
 
 wrapping-add-u32-requires : tie.Need-wrapping-add-u32-requires
 wrapping-add-u32-requires c κs = search needs
 
 returns-2 : tie.Need-returns-2
 unfolding entryAt table
-returns-2 c = λ stands. whole (c .before .before .before .before .args .mem .now) (c .before .before .before .before .args .counter) 0x35 (number 2) stands refl (c .before .literal-word .result) (c .wrapping-add-u32 .result) (omega arith) (c .before .literal-word .ensures) (c .wrapping-add-u32 .ensures)
+returns-2 c = λ stands. whole (c .before .before .before .before .args .mem .now) (c .before .before .before .before .args .counter) 0x35 (number 2) stands refl (c .before .read-word .result) (c .wrapping-add-u32 .result) (omega arith) (c .before .read-word .ensures) (c .wrapping-add-u32 .ensures)
 
 pub literal-word-spec : {M : Type 1} → statement M
 literal-word-spec =
@@ -34,7 +34,7 @@ literal-word-spec =
     (tie.spec
     add-if1
     returns
-    add-literal-word
-    literal-word-requires
+    add-read-word
+    read-word-requires
     wrapping-add-u32-requires
     returns-2)

@@ -1,49 +1,56 @@
--- Made by .ci/named from read_number.rules: 6badf3925aa7094c 9a1d22e4898eb168
--- By its width.
-use mathlib.Core.Path.{ap}
+-- Made by .ci/named from read_number.rules: a4aaac00915eb588 cd2be39262787406
+-- By the width that the code names.
+use mathlib.Core.Path.{_≡_, ap}
 use native.Mathlib.Omega.{arith}
+use borrow.Author.Tests.{ne-eqb}
 use Rattle.machine.specs.Memory.{size}
+use Rattle.machine.specs.declared.Width.the-variants.{Byte}
+use Rattle.run.specs.Accesses.{widthOf}
 use borrow.Author.Needs.{needs}
 use Rattle.run.proofs.memory.read_number.Statement.{statement}
 use Rattle.run.proofs.memory.read_number.Tie as tie
 
-enum-told : tie.Need-enum-told
-enum-told c = search needs
+read-long-requires : tie.Need-read-long-requires
+read-long-requires c κs = omega (arith, ap (λ c. size (widthOf c)) (c .match .keys1))
 
-read-byte-requires : tie.Need-read-byte-requires
-read-byte-requires c κs = omega (arith, ap size (c .enum-told .given .1))
-
-enum-told-2 : tie.Need-enum-told-2
-enum-told-2 c = search needs
+read-long-requires-2 : tie.Need-read-long-requires-2
+read-long-requires-2 c κs = omega (arith, ap (λ c. size (widthOf c)) (c .match .keys2))
 
 read-word-requires : tie.Need-read-word-requires
-read-word-requires c κs = omega (arith, ap size (c .enum-told2 .given .1))
+read-word-requires c κs = omega (arith, ap (λ c. size (widthOf c)) (c .match .keys3))
 
-enum-told-3 : tie.Need-enum-told-3
-enum-told-3 c = search needs
+read-word-requires-2 : tie.Need-read-word-requires-2
+read-word-requires-2 c κs = omega (arith, ap (λ c. size (widthOf c)) (c .match .keys4))
 
-read-long-requires : tie.Need-read-long-requires
-read-long-requires c κs = omega (arith, ap size (c .enum-told3 .given .1))
+read-byte-requires : tie.Need-read-byte-requires
+read-byte-requires c κs = let byte : widthOf (c .before .before .args .code) ≡ Byte = search (needs, ne-eqb) in omega (arith, ap size byte)
 
 returns : tie.Need-returns
-returns c = rw (c .before .enum-told .given .1) (c .read-byte .ensures)
+returns c = rw (c .before .match .keys1) (c .read-long .ensures)
 
 returns-2 : tie.Need-returns-2
-returns-2 c = rw (c .before .enum-told2 .given .1) (c .read-word .ensures)
+returns-2 c = rw (c .before .match .keys2) (c .read-long2 .ensures)
 
 returns-3 : tie.Need-returns-3
-returns-3 c = rw (c .before .enum-told3 .given .1) (c .read-long .ensures)
+returns-3 c = rw (c .before .match .keys3) (c .read-word .ensures)
+
+returns-4 : tie.Need-returns-4
+returns-4 c = rw (c .before .match .keys4) (c .read-word2 .ensures)
+
+returns-5 : tie.Need-returns-5
+returns-5 c = let byte : widthOf (c .before .before .before .args .code) ≡ Byte = search (needs, ne-eqb) in rw byte (c .read-byte .ensures)
 
 pub read-number-spec : {M : Type 1} → statement M
 read-number-spec =
     tie.close
     (tie.spec
-    enum-told
-    read-byte-requires
-    enum-told-2
-    read-word-requires
-    enum-told-3
     read-long-requires
+    read-long-requires-2
+    read-word-requires
+    read-word-requires-2
+    read-byte-requires
     returns
     returns-2
-    returns-3)
+    returns-3
+    returns-4
+    returns-5)

@@ -1,4 +1,4 @@
--- Made by .ci/named from rounds.rules: d5b329403d36645d aabb955f817f5b21
+-- Made by .ci/named from rounds.rules: 821925cc8d663af3 03736e3627305ba7
 -- The loop is the definition's run: each round is one step of `stepOf`, and what ends it is the definition's own.
 use mathlib.Core.Path.{_≡_, refl, ap, sym, _∙_}
 use mathlib.Core.Logic.{inl, inr}
@@ -6,6 +6,7 @@ use Prim.Native.Nat.{ℕ, _<_}
 use native.Mathlib.Omega.{arith}
 use Rattle.links.specs.Actions.{noLocals}
 use Rattle.machine.specs.Codes.{table, cycleTable}
+use Rattle.run.specs.Accesses.{widthOf}
 use Rattle.run.specs.Answers.{saysFetched, saysChecked, saysExit, saysThrown, saysReached, saysDone}
 use Rattle.run.specs.Registers.{machineIn}
 use Rattle.run.specs.declared.Reached.the-variants as reached
@@ -320,8 +321,8 @@ mul-frames c = omega (arith, catch-room (told saysChecked (c .before .before .be
 array-set-from-frames : tie.Need-array-set-from-frames Inv-loop μ-loop
 array-set-from-frames c = omega (arith, catch-room (told saysChecked (c .before .before .before .before .can-catch .ensures) (c .before .before .enum-told9 .given .1)))
 
-sub-t113 : tie.Need-sub-t113 Inv-loop μ-loop
-sub-t113 c = omega (arith, catch-room (told saysChecked (c .before .before .before .before .can-catch .ensures) (c .before .before .enum-told9 .given .1)))
+sub-t111 : tie.Need-sub-t111 Inv-loop μ-loop
+sub-t111 c = omega (arith, catch-room (told saysChecked (c .before .before .before .before .can-catch .ensures) (c .before .before .enum-told9 .given .1)))
 
 wrapping-add-u32-requires : tie.Need-wrapping-add-u32-requires Inv-loop μ-loop
 wrapping-add-u32-requires c κs = search needs
@@ -447,9 +448,6 @@ loop-less-15 c = omega (arith, c .counted8 .ensures .1)
 loop-again-15 : tie.Need-loop-again-15 Inv-loop μ-loop
 loop-again-15 c = (goes (found (c .before .before .before .before .before .before .before .before .before .before .before .before .before .before .before)) (throw-acts (found (c .before .before .before .before .before .before .before .before .before .before .before .before .before .before .before)) (c .before .before .before .before .before .before .before .before .before .before .before .before .before .match3 .keys6)) (told saysThrown (c .before .before .before .before .before .before .before .before .before .before .before .can-throw .ensures) (c .before .before .before .before .before .before .before .before .before .thrown .given .1 ∙ ap thrown.Found (c .before .before .before .before .before .before .throw .given .1))) refl refl (c .before .price7 .ensures .0) (c .counted8 .ensures .0), c .before .before .before .before .before .before .before .before .before .before .before .before .before .before .before .before .before .before .before .before .before .before .loop .inv .1)
 
-width-of-requires : tie.Need-width-of-requires Inv-loop μ-loop
-width-of-requires c κs = search needs
-
 reach-requires : tie.Need-reach-requires Inv-loop μ-loop
 reach-requires c κs = search needs
 
@@ -463,25 +461,25 @@ by-reach-requires : tie.Need-by-reach-requires Inv-loop μ-loop
 by-reach-requires c κs = search needs
 
 loop-less-16 : tie.Need-loop-less-16 Inv-loop μ-loop
-loop-less-16 c = halted-less (c .before .before .before .before .before .before .before .before .before .before .before .before .before .before .before .loop .regs) (c .by-reach .ensures) (ap saysReached (c .before .enum-told13 .given .1)) ((found (c .before .before .before .before .before .before .before .before)) .less)
+loop-less-16 c = halted-less (c .before .before .before .before .before .before .before .before .before .before .before .before .before .before .loop .regs) (c .by-reach .ensures) (ap saysReached (c .before .enum-told13 .given .1)) ((found (c .before .before .before .before .before .before .before)) .less)
 
 loop-again-16 : tie.Need-loop-again-16 Inv-loop μ-loop
-loop-again-16 c = (ends (found (c .before .before .before .before .before .before .before .before)) (fetch-acts (found (c .before .before .before .before .before .before .before .before)) (c .before .before .before .before .before .before .match3 .keys7) (c .before .before .before .before .before .width-of .ensures)) (told saysReached (c .before .before .before .reach .ensures) (c .before .enum-told13 .given .1)) (c .before .before .before .reach .ensures) (c .by-reach .ensures), c .before .before .before .before .before .before .before .before .before .before .before .before .before .before .before .loop .inv .1)
+loop-again-16 c = (ends (found (c .before .before .before .before .before .before .before)) (fetch-acts (found (c .before .before .before .before .before .before .before)) (c .before .before .before .before .before .match3 .keys7)) (told saysReached (c .before .before .before .reach .ensures) (c .before .enum-told13 .given .1)) (c .before .before .before .reach .ensures) (c .by-reach .ensures), c .before .before .before .before .before .before .before .before .before .before .before .before .before .before .loop .inv .1)
 
 enum-known-spot : tie.Need-enum-known-spot Inv-loop μ-loop
 enum-known-spot c = search needs
 
 read-number-requires : tie.Need-read-number-requires Inv-loop μ-loop
-read-number-requires c κs = omega (arith, memory-room (c .before .before .before .before .before .before .before .before .before .width-of .result) (c .before .before .before .before .before .before .before .before .before .before .before .before .before .before .before .before .before .before .before .loop .cells) (told saysReached (c .before .before .before .before .before .before .before .reach .ensures) (c .before .before .before .before .before .reached .given .1 ∙ ap reached.At (c .before .before .spot .given .1))), (c .before .before .before .before .before .before .before .before .before .before .before .before .before .before .before .before .before .before .before .loop .inv .0) .long)
+read-number-requires c κs = omega (arith, memory-room (widthOf (c .before .before .before .before .before .before .before .before .before .before .before .before .fetched .given .0 .0)) (c .before .before .before .before .before .before .before .before .before .before .before .before .before .before .before .before .before .before .loop .cells) (told saysReached (c .before .before .before .before .before .before .before .reach .ensures) (c .before .before .before .before .before .reached .given .1 ∙ ap reached.At (c .before .before .spot .given .1))), (c .before .before .before .before .before .before .before .before .before .before .before .before .before .before .before .before .before .before .loop .inv .0) .long)
 
 sub-cells-3 : tie.Need-sub-cells-3 Inv-loop μ-loop
-sub-cells-3 c = omega (arith, memory-room (c .before .before .before .before .before .before .before .before .before .before .width-of .result) (c .before .before .before .before .before .before .before .before .before .before .before .before .before .before .before .before .before .before .before .before .loop .cells) (told saysReached (c .before .before .before .before .before .before .before .before .reach .ensures) (c .before .before .before .before .before .before .reached .given .1 ∙ ap reached.At (c .before .before .before .spot .given .1))))
+sub-cells-3 c = omega (arith, memory-room (widthOf (c .before .before .before .before .before .before .before .before .before .before .before .before .before .fetched .given .0 .0)) (c .before .before .before .before .before .before .before .before .before .before .before .before .before .before .before .before .before .before .before .loop .cells) (told saysReached (c .before .before .before .before .before .before .before .before .reach .ensures) (c .before .before .before .before .before .before .reached .given .1 ∙ ap reached.At (c .before .before .before .spot .given .1))))
 
 mul-cells-6 : tie.Need-mul-cells-6 Inv-loop μ-loop
-mul-cells-6 c = omega (arith, memory-room (c .before .before .before .before .before .before .before .before .before .before .width-of .result) (c .before .before .before .before .before .before .before .before .before .before .before .before .before .before .before .before .before .before .before .before .loop .cells) (told saysReached (c .before .before .before .before .before .before .before .before .reach .ensures) (c .before .before .before .before .before .before .reached .given .1 ∙ ap reached.At (c .before .before .before .spot .given .1))))
+mul-cells-6 c = omega (arith, memory-room (widthOf (c .before .before .before .before .before .before .before .before .before .before .before .before .before .fetched .given .0 .0)) (c .before .before .before .before .before .before .before .before .before .before .before .before .before .before .before .before .before .before .before .loop .cells) (told saysReached (c .before .before .before .before .before .before .before .before .reach .ensures) (c .before .before .before .before .before .before .reached .given .1 ∙ ap reached.At (c .before .before .before .spot .given .1))))
 
 array-write-cells-4 : tie.Need-array-write-cells-4 Inv-loop μ-loop
-array-write-cells-4 c = omega (arith, memory-room (c .before .before .before .before .before .before .before .before .before .before .width-of .result) (c .before .before .before .before .before .before .before .before .before .before .before .before .before .before .before .before .before .before .before .before .loop .cells) (told saysReached (c .before .before .before .before .before .before .before .before .reach .ensures) (c .before .before .before .before .before .before .reached .given .1 ∙ ap reached.At (c .before .before .before .spot .given .1))))
+array-write-cells-4 c = omega (arith, memory-room (widthOf (c .before .before .before .before .before .before .before .before .before .before .before .before .before .fetched .given .0 .0)) (c .before .before .before .before .before .before .before .before .before .before .before .before .before .before .before .before .before .before .before .loop .cells) (told saysReached (c .before .before .before .before .before .before .before .before .reach .ensures) (c .before .before .before .before .before .before .reached .given .1 ∙ ap reached.At (c .before .before .before .spot .given .1))))
 
 price-requires-8 : tie.Need-price-requires-8 Inv-loop μ-loop
 price-requires-8 c κs = search needs
@@ -493,7 +491,7 @@ loop-less-17 : tie.Need-loop-less-17 Inv-loop μ-loop
 loop-less-17 c = omega (arith, c .counted9 .ensures .1)
 
 loop-again-17 : tie.Need-loop-again-17 Inv-loop μ-loop
-loop-again-17 c = (goes (found (c .before .before .before .before .before .before .before .before .before .before .before .before .before .before .before .before)) (fetch-acts (found (c .before .before .before .before .before .before .before .before .before .before .before .before .before .before .before .before)) (c .before .before .before .before .before .before .before .before .before .before .before .before .before .before .match3 .keys7) (c .before .before .before .before .before .before .before .before .before .before .before .before .before .width-of .ensures)) (told saysReached (c .before .before .before .before .before .before .before .before .before .before .before .reach .ensures) (c .before .before .before .before .before .before .before .before .before .reached .given .1 ∙ ap reached.At (c .before .before .before .before .before .before .spot .given .1))) (ap (fetchedAs (found (c .before .before .before .before .before .before .before .before .before .before .before .before .before .before .before .before))) (sym (c .before .before .before .read-number .ensures))) refl (c .before .price8 .ensures .0) (c .counted9 .ensures .0), c .before .before .before .before .before .before .before .before .before .before .before .before .before .before .before .before .before .before .before .before .before .before .before .loop .inv .1)
+loop-again-17 c = (goes (found (c .before .before .before .before .before .before .before .before .before .before .before .before .before .before .before)) (fetch-acts (found (c .before .before .before .before .before .before .before .before .before .before .before .before .before .before .before)) (c .before .before .before .before .before .before .before .before .before .before .before .before .before .match3 .keys7)) (told saysReached (c .before .before .before .before .before .before .before .before .before .before .before .reach .ensures) (c .before .before .before .before .before .before .before .before .before .reached .given .1 ∙ ap reached.At (c .before .before .before .before .before .before .spot .given .1))) (ap (fetchedAs (found (c .before .before .before .before .before .before .before .before .before .before .before .before .before .before .before))) (sym (c .before .before .before .read-number .ensures))) refl (c .before .price8 .ensures .0) (c .counted9 .ensures .0), c .before .before .before .before .before .before .before .before .before .before .before .before .before .before .before .before .before .before .before .before .before .before .loop .inv .1)
 
 enum-known-spot-2 : tie.Need-enum-known-spot-2 Inv-loop μ-loop
 enum-known-spot-2 c = search needs
@@ -505,19 +503,19 @@ array-copy-out-frame-3 : tie.Need-array-copy-out-frame-3 Inv-loop μ-loop
 array-copy-out-frame-3 c = search needs
 
 mul-cells-7 : tie.Need-mul-cells-7 Inv-loop μ-loop
-mul-cells-7 c = omega (arith, local-room (c .before .before .before .before .before .before .before .before .before .before .width-of .result) (c .before .before .before .before .before .before .before .before .before .before .before .before .before .before .before .before .before .before .before .before .loop .cells) (told saysReached (c .before .before .before .before .before .before .before .before .reach .ensures) (c .before .before .before .before .before .before .reached .given .1 ∙ ap reached.At (c .before .before .before .spot2 .given .1))))
+mul-cells-7 c = omega (arith, local-room (widthOf (c .before .before .before .before .before .before .before .before .before .before .before .before .before .fetched .given .0 .0)) (c .before .before .before .before .before .before .before .before .before .before .before .before .before .before .before .before .before .before .before .loop .cells) (told saysReached (c .before .before .before .before .before .before .before .before .reach .ensures) (c .before .before .before .before .before .before .reached .given .1 ∙ ap reached.At (c .before .before .before .spot2 .given .1))))
 
 array-read-cells-3 : tie.Need-array-read-cells-3 Inv-loop μ-loop
-array-read-cells-3 c = omega (arith, local-room (c .before .before .before .before .before .before .before .before .before .before .width-of .result) (c .before .before .before .before .before .before .before .before .before .before .before .before .before .before .before .before .before .before .before .before .loop .cells) (told saysReached (c .before .before .before .before .before .before .before .before .reach .ensures) (c .before .before .before .before .before .before .reached .given .1 ∙ ap reached.At (c .before .before .before .spot2 .given .1))))
+array-read-cells-3 c = omega (arith, local-room (widthOf (c .before .before .before .before .before .before .before .before .before .before .before .before .before .fetched .given .0 .0)) (c .before .before .before .before .before .before .before .before .before .before .before .before .before .before .before .before .before .before .before .loop .cells) (told saysReached (c .before .before .before .before .before .before .before .before .reach .ensures) (c .before .before .before .before .before .before .reached .given .1 ∙ ap reached.At (c .before .before .before .spot2 .given .1))))
 
 sub-cells-4 : tie.Need-sub-cells-4 Inv-loop μ-loop
-sub-cells-4 c = omega (arith, local-room (c .before .before .before .before .before .before .before .before .before .before .width-of .result) (c .before .before .before .before .before .before .before .before .before .before .before .before .before .before .before .before .before .before .before .before .loop .cells) (told saysReached (c .before .before .before .before .before .before .before .before .reach .ensures) (c .before .before .before .before .before .before .reached .given .1 ∙ ap reached.At (c .before .before .before .spot2 .given .1))))
+sub-cells-4 c = omega (arith, local-room (widthOf (c .before .before .before .before .before .before .before .before .before .before .before .before .before .fetched .given .0 .0)) (c .before .before .before .before .before .before .before .before .before .before .before .before .before .before .before .before .before .before .before .loop .cells) (told saysReached (c .before .before .before .before .before .before .before .before .reach .ensures) (c .before .before .before .before .before .before .reached .given .1 ∙ ap reached.At (c .before .before .before .spot2 .given .1))))
 
 mul-cells-8 : tie.Need-mul-cells-8 Inv-loop μ-loop
-mul-cells-8 c = omega (arith, local-room (c .before .before .before .before .before .before .before .before .before .before .width-of .result) (c .before .before .before .before .before .before .before .before .before .before .before .before .before .before .before .before .before .before .before .before .loop .cells) (told saysReached (c .before .before .before .before .before .before .before .before .reach .ensures) (c .before .before .before .before .before .before .reached .given .1 ∙ ap reached.At (c .before .before .before .spot2 .given .1))))
+mul-cells-8 c = omega (arith, local-room (widthOf (c .before .before .before .before .before .before .before .before .before .before .before .before .before .fetched .given .0 .0)) (c .before .before .before .before .before .before .before .before .before .before .before .before .before .before .before .before .before .before .before .loop .cells) (told saysReached (c .before .before .before .before .before .before .before .before .reach .ensures) (c .before .before .before .before .before .before .reached .given .1 ∙ ap reached.At (c .before .before .before .spot2 .given .1))))
 
 array-write-cells-5 : tie.Need-array-write-cells-5 Inv-loop μ-loop
-array-write-cells-5 c = omega (arith, local-room (c .before .before .before .before .before .before .before .before .before .before .width-of .result) (c .before .before .before .before .before .before .before .before .before .before .before .before .before .before .before .before .before .before .before .before .loop .cells) (told saysReached (c .before .before .before .before .before .before .before .before .reach .ensures) (c .before .before .before .before .before .before .reached .given .1 ∙ ap reached.At (c .before .before .before .spot2 .given .1))))
+array-write-cells-5 c = omega (arith, local-room (widthOf (c .before .before .before .before .before .before .before .before .before .before .before .before .before .fetched .given .0 .0)) (c .before .before .before .before .before .before .before .before .before .before .before .before .before .before .before .before .before .before .before .loop .cells) (told saysReached (c .before .before .before .before .before .before .before .before .reach .ensures) (c .before .before .before .before .before .before .reached .given .1 ∙ ap reached.At (c .before .before .before .spot2 .given .1))))
 
 price-requires-9 : tie.Need-price-requires-9 Inv-loop μ-loop
 price-requires-9 c κs = search needs
@@ -529,7 +527,7 @@ loop-less-18 : tie.Need-loop-less-18 Inv-loop μ-loop
 loop-less-18 c = omega (arith, c .counted10 .ensures .1)
 
 loop-again-18 : tie.Need-loop-again-18 Inv-loop μ-loop
-loop-again-18 c = (goes (found (c .before .before .before .before .before .before .before .before .before .before .before .before .before .before .before .before)) (fetch-acts (found (c .before .before .before .before .before .before .before .before .before .before .before .before .before .before .before .before)) (c .before .before .before .before .before .before .before .before .before .before .before .before .before .before .match3 .keys7) (c .before .before .before .before .before .before .before .before .before .before .before .before .before .width-of .ensures)) (told saysReached (c .before .before .before .before .before .before .before .before .before .before .before .reach .ensures) (c .before .before .before .before .before .before .before .before .before .reached .given .1 ∙ ap reached.At (c .before .before .before .before .before .before .spot2 .given .1))) refl refl (c .before .price9 .ensures .0) (c .counted10 .ensures .0), c .before .before .before .before .before .before .before .before .before .before .before .before .before .before .before .before .before .before .before .before .before .before .before .loop .inv .1)
+loop-again-18 c = (goes (found (c .before .before .before .before .before .before .before .before .before .before .before .before .before .before .before)) (fetch-acts (found (c .before .before .before .before .before .before .before .before .before .before .before .before .before .before .before)) (c .before .before .before .before .before .before .before .before .before .before .before .before .before .match3 .keys7)) (told saysReached (c .before .before .before .before .before .before .before .before .before .before .before .reach .ensures) (c .before .before .before .before .before .before .before .before .before .reached .given .1 ∙ ap reached.At (c .before .before .before .before .before .before .spot2 .given .1))) refl refl (c .before .price9 .ensures .0) (c .counted10 .ensures .0), c .before .before .before .before .before .before .before .before .before .before .before .before .before .before .before .before .before .before .before .before .before .before .loop .inv .1)
 
 enum-known-spot-3 : tie.Need-enum-known-spot-3 Inv-loop μ-loop
 enum-known-spot-3 c = search needs
@@ -541,19 +539,19 @@ array-copy-out-level-3 : tie.Need-array-copy-out-level-3 Inv-loop μ-loop
 array-copy-out-level-3 c = search needs
 
 mul-cells-9 : tie.Need-mul-cells-9 Inv-loop μ-loop
-mul-cells-9 c = omega (arith, cell-room (c .before .before .before .before .before .before .before .before .before .before .width-of .result) (c .before .before .before .before .before .before .before .before .before .before .before .before .before .before .before .before .before .before .before .before .loop .cells) (told saysReached (c .before .before .before .before .before .before .before .before .reach .ensures) (c .before .before .before .before .before .before .reached .given .1 ∙ ap reached.At (c .before .before .before .spot3 .given .1))))
+mul-cells-9 c = omega (arith, cell-room (widthOf (c .before .before .before .before .before .before .before .before .before .before .before .before .before .fetched .given .0 .0)) (c .before .before .before .before .before .before .before .before .before .before .before .before .before .before .before .before .before .before .before .loop .cells) (told saysReached (c .before .before .before .before .before .before .before .before .reach .ensures) (c .before .before .before .before .before .before .reached .given .1 ∙ ap reached.At (c .before .before .before .spot3 .given .1))))
 
 array-read-cells-4 : tie.Need-array-read-cells-4 Inv-loop μ-loop
-array-read-cells-4 c = omega (arith, cell-room (c .before .before .before .before .before .before .before .before .before .before .width-of .result) (c .before .before .before .before .before .before .before .before .before .before .before .before .before .before .before .before .before .before .before .before .loop .cells) (told saysReached (c .before .before .before .before .before .before .before .before .reach .ensures) (c .before .before .before .before .before .before .reached .given .1 ∙ ap reached.At (c .before .before .before .spot3 .given .1))))
+array-read-cells-4 c = omega (arith, cell-room (widthOf (c .before .before .before .before .before .before .before .before .before .before .before .before .before .fetched .given .0 .0)) (c .before .before .before .before .before .before .before .before .before .before .before .before .before .before .before .before .before .before .before .loop .cells) (told saysReached (c .before .before .before .before .before .before .before .before .reach .ensures) (c .before .before .before .before .before .before .reached .given .1 ∙ ap reached.At (c .before .before .before .spot3 .given .1))))
 
 sub-cells-5 : tie.Need-sub-cells-5 Inv-loop μ-loop
-sub-cells-5 c = omega (arith, cell-room (c .before .before .before .before .before .before .before .before .before .before .width-of .result) (c .before .before .before .before .before .before .before .before .before .before .before .before .before .before .before .before .before .before .before .before .loop .cells) (told saysReached (c .before .before .before .before .before .before .before .before .reach .ensures) (c .before .before .before .before .before .before .reached .given .1 ∙ ap reached.At (c .before .before .before .spot3 .given .1))))
+sub-cells-5 c = omega (arith, cell-room (widthOf (c .before .before .before .before .before .before .before .before .before .before .before .before .before .fetched .given .0 .0)) (c .before .before .before .before .before .before .before .before .before .before .before .before .before .before .before .before .before .before .before .loop .cells) (told saysReached (c .before .before .before .before .before .before .before .before .reach .ensures) (c .before .before .before .before .before .before .reached .given .1 ∙ ap reached.At (c .before .before .before .spot3 .given .1))))
 
 mul-cells-10 : tie.Need-mul-cells-10 Inv-loop μ-loop
-mul-cells-10 c = omega (arith, cell-room (c .before .before .before .before .before .before .before .before .before .before .width-of .result) (c .before .before .before .before .before .before .before .before .before .before .before .before .before .before .before .before .before .before .before .before .loop .cells) (told saysReached (c .before .before .before .before .before .before .before .before .reach .ensures) (c .before .before .before .before .before .before .reached .given .1 ∙ ap reached.At (c .before .before .before .spot3 .given .1))))
+mul-cells-10 c = omega (arith, cell-room (widthOf (c .before .before .before .before .before .before .before .before .before .before .before .before .before .fetched .given .0 .0)) (c .before .before .before .before .before .before .before .before .before .before .before .before .before .before .before .before .before .before .before .loop .cells) (told saysReached (c .before .before .before .before .before .before .before .before .reach .ensures) (c .before .before .before .before .before .before .reached .given .1 ∙ ap reached.At (c .before .before .before .spot3 .given .1))))
 
 array-write-cells-6 : tie.Need-array-write-cells-6 Inv-loop μ-loop
-array-write-cells-6 c = omega (arith, cell-room (c .before .before .before .before .before .before .before .before .before .before .width-of .result) (c .before .before .before .before .before .before .before .before .before .before .before .before .before .before .before .before .before .before .before .before .loop .cells) (told saysReached (c .before .before .before .before .before .before .before .before .reach .ensures) (c .before .before .before .before .before .before .reached .given .1 ∙ ap reached.At (c .before .before .before .spot3 .given .1))))
+array-write-cells-6 c = omega (arith, cell-room (widthOf (c .before .before .before .before .before .before .before .before .before .before .before .before .before .fetched .given .0 .0)) (c .before .before .before .before .before .before .before .before .before .before .before .before .before .before .before .before .before .before .before .loop .cells) (told saysReached (c .before .before .before .before .before .before .before .before .reach .ensures) (c .before .before .before .before .before .before .reached .given .1 ∙ ap reached.At (c .before .before .before .spot3 .given .1))))
 
 price-requires-10 : tie.Need-price-requires-10 Inv-loop μ-loop
 price-requires-10 c κs = search needs
@@ -565,10 +563,7 @@ loop-less-19 : tie.Need-loop-less-19 Inv-loop μ-loop
 loop-less-19 c = omega (arith, c .counted11 .ensures .1)
 
 loop-again-19 : tie.Need-loop-again-19 Inv-loop μ-loop
-loop-again-19 c = (goes (found (c .before .before .before .before .before .before .before .before .before .before .before .before .before .before .before .before)) (fetch-acts (found (c .before .before .before .before .before .before .before .before .before .before .before .before .before .before .before .before)) (c .before .before .before .before .before .before .before .before .before .before .before .before .before .before .match3 .keys7) (c .before .before .before .before .before .before .before .before .before .before .before .before .before .width-of .ensures)) (told saysReached (c .before .before .before .before .before .before .before .before .before .before .before .reach .ensures) (c .before .before .before .before .before .before .before .before .before .reached .given .1 ∙ ap reached.At (c .before .before .before .before .before .before .spot3 .given .1))) refl refl (c .before .price10 .ensures .0) (c .counted11 .ensures .0), c .before .before .before .before .before .before .before .before .before .before .before .before .before .before .before .before .before .before .before .before .before .before .before .loop .inv .1)
-
-width-of-requires-2 : tie.Need-width-of-requires-2 Inv-loop μ-loop
-width-of-requires-2 c κs = search needs
+loop-again-19 c = (goes (found (c .before .before .before .before .before .before .before .before .before .before .before .before .before .before .before)) (fetch-acts (found (c .before .before .before .before .before .before .before .before .before .before .before .before .before .before .before)) (c .before .before .before .before .before .before .before .before .before .before .before .before .before .match3 .keys7)) (told saysReached (c .before .before .before .before .before .before .before .before .before .before .before .reach .ensures) (c .before .before .before .before .before .before .before .before .before .reached .given .1 ∙ ap reached.At (c .before .before .before .before .before .before .spot3 .given .1))) refl refl (c .before .price10 .ensures .0) (c .counted11 .ensures .0), c .before .before .before .before .before .before .before .before .before .before .before .before .before .before .before .before .before .before .before .before .before .before .loop .inv .1)
 
 reach-requires-2 : tie.Need-reach-requires-2 Inv-loop μ-loop
 reach-requires-2 c κs = search needs
@@ -583,28 +578,28 @@ by-reach-requires-2 : tie.Need-by-reach-requires-2 Inv-loop μ-loop
 by-reach-requires-2 c κs = search needs
 
 loop-less-20 : tie.Need-loop-less-20 Inv-loop μ-loop
-loop-less-20 c = halted-less (c .before .before .before .before .before .before .before .before .before .before .before .before .before .before .before .loop .regs) (c .by-reach2 .ensures) (ap saysReached (c .before .enum-told14 .given .1)) ((found (c .before .before .before .before .before .before .before .before)) .less)
+loop-less-20 c = halted-less (c .before .before .before .before .before .before .before .before .before .before .before .before .before .before .loop .regs) (c .by-reach2 .ensures) (ap saysReached (c .before .enum-told14 .given .1)) ((found (c .before .before .before .before .before .before .before)) .less)
 
 loop-again-20 : tie.Need-loop-again-20 Inv-loop μ-loop
-loop-again-20 c = (ends (found (c .before .before .before .before .before .before .before .before)) (store-acts (found (c .before .before .before .before .before .before .before .before)) (c .before .before .before .before .before .before .match3 .keys8) (c .before .before .before .before .before .width-of2 .ensures)) (told saysReached (c .before .before .before .reach2 .ensures) (c .before .enum-told14 .given .1)) (c .before .before .before .reach2 .ensures) (c .by-reach2 .ensures), c .before .before .before .before .before .before .before .before .before .before .before .before .before .before .before .loop .inv .1)
+loop-again-20 c = (ends (found (c .before .before .before .before .before .before .before)) (store-acts (found (c .before .before .before .before .before .before .before)) (c .before .before .before .before .before .match3 .keys8)) (told saysReached (c .before .before .before .reach2 .ensures) (c .before .enum-told14 .given .1)) (c .before .before .before .reach2 .ensures) (c .by-reach2 .ensures), c .before .before .before .before .before .before .before .before .before .before .before .before .before .before .loop .inv .1)
 
 enum-known-spot-4 : tie.Need-enum-known-spot-4 Inv-loop μ-loop
 enum-known-spot-4 c = search needs
 
 sub-write-number : tie.Need-sub-write-number Inv-loop μ-loop
-sub-write-number c = omega (arith, memory-room (c .before .before .before .before .before .before .before .before .before .width-of2 .result) (c .before .before .before .before .before .before .before .before .before .before .before .before .before .before .before .before .before .before .before .loop .cells) (told saysReached (c .before .before .before .before .before .before .before .reach2 .ensures) (c .before .before .before .before .before .reached2 .given .1 ∙ ap reached.At (c .before .before .spot4 .given .1))))
+sub-write-number c = omega (arith, memory-room (widthOf (c .before .before .before .before .before .before .before .before .before .before .before .before .fetched .given .0 .0)) (c .before .before .before .before .before .before .before .before .before .before .before .before .before .before .before .before .before .before .loop .cells) (told saysReached (c .before .before .before .before .before .before .before .reach2 .ensures) (c .before .before .before .before .before .reached2 .given .1 ∙ ap reached.At (c .before .before .spot4 .given .1))))
 
 mul-write-number : tie.Need-mul-write-number Inv-loop μ-loop
-mul-write-number c = omega (arith, memory-room (c .before .before .before .before .before .before .before .before .before .width-of2 .result) (c .before .before .before .before .before .before .before .before .before .before .before .before .before .before .before .before .before .before .before .loop .cells) (told saysReached (c .before .before .before .before .before .before .before .reach2 .ensures) (c .before .before .before .before .before .reached2 .given .1 ∙ ap reached.At (c .before .before .spot4 .given .1))))
+mul-write-number c = omega (arith, memory-room (widthOf (c .before .before .before .before .before .before .before .before .before .before .before .before .fetched .given .0 .0)) (c .before .before .before .before .before .before .before .before .before .before .before .before .before .before .before .before .before .before .loop .cells) (told saysReached (c .before .before .before .before .before .before .before .reach2 .ensures) (c .before .before .before .before .before .reached2 .given .1 ∙ ap reached.At (c .before .before .spot4 .given .1))))
 
 array-read-write-number : tie.Need-array-read-write-number Inv-loop μ-loop
-array-read-write-number c = omega (arith, memory-room (c .before .before .before .before .before .before .before .before .before .width-of2 .result) (c .before .before .before .before .before .before .before .before .before .before .before .before .before .before .before .before .before .before .before .loop .cells) (told saysReached (c .before .before .before .before .before .before .before .reach2 .ensures) (c .before .before .before .before .before .reached2 .given .1 ∙ ap reached.At (c .before .before .spot4 .given .1))))
+array-read-write-number c = omega (arith, memory-room (widthOf (c .before .before .before .before .before .before .before .before .before .before .before .before .fetched .given .0 .0)) (c .before .before .before .before .before .before .before .before .before .before .before .before .before .before .before .before .before .before .loop .cells) (told saysReached (c .before .before .before .before .before .before .before .reach2 .ensures) (c .before .before .before .before .before .reached2 .given .1 ∙ ap reached.At (c .before .before .spot4 .given .1))))
 
 write-number-requires : tie.Need-write-number-requires Inv-loop μ-loop
-write-number-requires c κs = omega (arith, memory-room (c .before .before .before .before .before .before .before .before .before .width-of2 .result) (c .before .before .before .before .before .before .before .before .before .before .before .before .before .before .before .before .before .before .before .loop .cells) (told saysReached (c .before .before .before .before .before .before .before .reach2 .ensures) (c .before .before .before .before .before .reached2 .given .1 ∙ ap reached.At (c .before .before .spot4 .given .1))), (c .before .before .before .before .before .before .before .before .before .before .before .before .before .before .before .before .before .before .before .loop .inv .0) .long)
+write-number-requires c κs = omega (arith, memory-room (widthOf (c .before .before .before .before .before .before .before .before .before .before .before .before .fetched .given .0 .0)) (c .before .before .before .before .before .before .before .before .before .before .before .before .before .before .before .before .before .before .loop .cells) (told saysReached (c .before .before .before .before .before .before .before .reach2 .ensures) (c .before .before .before .before .before .reached2 .given .1 ∙ ap reached.At (c .before .before .spot4 .given .1))), (c .before .before .before .before .before .before .before .before .before .before .before .before .before .before .before .before .before .before .loop .inv .0) .long)
 
 sub-regs-6 : tie.Need-sub-regs-6 Inv-loop μ-loop
-sub-regs-6 c = omega (arith, memory-room (c .before .before .before .before .before .before .before .before .before .before .before .before .width-of2 .result) (c .before .before .before .before .before .before .before .before .before .before .before .before .before .before .before .before .before .before .before .before .before .before .loop .cells) (told saysReached (c .before .before .before .before .before .before .before .before .before .before .reach2 .ensures) (c .before .before .before .before .before .before .before .before .reached2 .given .1 ∙ ap reached.At (c .before .before .before .before .before .spot4 .given .1))))
+sub-regs-6 c = omega (arith, memory-room (widthOf (c .before .before .before .before .before .before .before .before .before .before .before .before .before .before .before .fetched .given .0 .0)) (c .before .before .before .before .before .before .before .before .before .before .before .before .before .before .before .before .before .before .before .before .before .loop .cells) (told saysReached (c .before .before .before .before .before .before .before .before .before .before .reach2 .ensures) (c .before .before .before .before .before .before .before .before .reached2 .given .1 ∙ ap reached.At (c .before .before .before .before .before .spot4 .given .1))))
 
 price-requires-11 : tie.Need-price-requires-11 Inv-loop μ-loop
 price-requires-11 c κs = search needs
@@ -616,7 +611,7 @@ loop-less-21 : tie.Need-loop-less-21 Inv-loop μ-loop
 loop-less-21 c = omega (arith, c .counted12 .ensures .1)
 
 loop-again-21 : tie.Need-loop-again-21 Inv-loop μ-loop
-loop-again-21 c = (goes (found (c .before .before .before .before .before .before .before .before .before .before .before .before .before .before .before .before .before .before)) (store-acts (found (c .before .before .before .before .before .before .before .before .before .before .before .before .before .before .before .before .before .before)) (c .before .before .before .before .before .before .before .before .before .before .before .before .before .before .before .before .match3 .keys8) (c .before .before .before .before .before .before .before .before .before .before .before .before .before .before .before .width-of2 .ensures)) (told saysReached (c .before .before .before .before .before .before .before .before .before .before .before .before .before .reach2 .ensures) (c .before .before .before .before .before .before .before .before .before .before .before .reached2 .given .1 ∙ ap reached.At (c .before .before .before .before .before .before .before .before .spot4 .given .1))) (written-there (found (c .before .before .before .before .before .before .before .before .before .before .before .before .before .before .before .before .before .before)) (c .before .before .before .before .before .before .before .before .before .before .before .before .before .before .before .width-of2 .result) (c .before .before .before .before .before .before .before .before .spot4 .given .0 .0) (c .before .before .before .before .before .write-number .ensures)) refl (c .before .price11 .ensures .0) (c .counted12 .ensures .0), c .before .before .before .before .before .before .before .before .before .before .before .before .before .before .before .before .before .before .before .before .before .before .before .before .before .loop .inv .1)
+loop-again-21 c = (goes (found (c .before .before .before .before .before .before .before .before .before .before .before .before .before .before .before .before .before)) (store-acts (found (c .before .before .before .before .before .before .before .before .before .before .before .before .before .before .before .before .before)) (c .before .before .before .before .before .before .before .before .before .before .before .before .before .before .before .match3 .keys8)) (told saysReached (c .before .before .before .before .before .before .before .before .before .before .before .before .before .reach2 .ensures) (c .before .before .before .before .before .before .before .before .before .before .before .reached2 .given .1 ∙ ap reached.At (c .before .before .before .before .before .before .before .before .spot4 .given .1))) (written-there (found (c .before .before .before .before .before .before .before .before .before .before .before .before .before .before .before .before .before)) (widthOf (c .before .before .before .before .before .before .before .before .before .before .before .before .before .before .before .before .before .before .fetched .given .0 .0)) (c .before .before .before .before .before .before .before .before .spot4 .given .0 .0) (c .before .before .before .before .before .write-number .ensures)) refl (c .before .price11 .ensures .0) (c .counted12 .ensures .0), c .before .before .before .before .before .before .before .before .before .before .before .before .before .before .before .before .before .before .before .before .before .before .before .before .loop .inv .1)
 
 enum-known-spot-5 : tie.Need-enum-known-spot-5 Inv-loop μ-loop
 enum-known-spot-5 c = search needs
@@ -628,28 +623,28 @@ array-copy-out-frame-4 : tie.Need-array-copy-out-frame-4 Inv-loop μ-loop
 array-copy-out-frame-4 c = search needs
 
 sub-locals : tie.Need-sub-locals Inv-loop μ-loop
-sub-locals c = omega (arith, local-room (c .before .before .before .before .before .before .before .before .before .before .width-of2 .result) (c .before .before .before .before .before .before .before .before .before .before .before .before .before .before .before .before .before .before .before .before .loop .cells) (told saysReached (c .before .before .before .before .before .before .before .before .reach2 .ensures) (c .before .before .before .before .before .before .reached2 .given .1 ∙ ap reached.At (c .before .before .before .spot5 .given .1))))
+sub-locals c = omega (arith, local-room (widthOf (c .before .before .before .before .before .before .before .before .before .before .before .before .before .fetched .given .0 .0)) (c .before .before .before .before .before .before .before .before .before .before .before .before .before .before .before .before .before .before .before .loop .cells) (told saysReached (c .before .before .before .before .before .before .before .before .reach2 .ensures) (c .before .before .before .before .before .before .reached2 .given .1 ∙ ap reached.At (c .before .before .before .spot5 .given .1))))
 
 mul-locals : tie.Need-mul-locals Inv-loop μ-loop
-mul-locals c = omega (arith, local-room (c .before .before .before .before .before .before .before .before .before .before .width-of2 .result) (c .before .before .before .before .before .before .before .before .before .before .before .before .before .before .before .before .before .before .before .before .loop .cells) (told saysReached (c .before .before .before .before .before .before .before .before .reach2 .ensures) (c .before .before .before .before .before .before .reached2 .given .1 ∙ ap reached.At (c .before .before .before .spot5 .given .1))))
+mul-locals c = omega (arith, local-room (widthOf (c .before .before .before .before .before .before .before .before .before .before .before .before .before .fetched .given .0 .0)) (c .before .before .before .before .before .before .before .before .before .before .before .before .before .before .before .before .before .before .before .loop .cells) (told saysReached (c .before .before .before .before .before .before .before .before .reach2 .ensures) (c .before .before .before .before .before .before .reached2 .given .1 ∙ ap reached.At (c .before .before .before .spot5 .given .1))))
 
 array-read-locals : tie.Need-array-read-locals Inv-loop μ-loop
-array-read-locals c = omega (arith, local-room (c .before .before .before .before .before .before .before .before .before .before .width-of2 .result) (c .before .before .before .before .before .before .before .before .before .before .before .before .before .before .before .before .before .before .before .before .loop .cells) (told saysReached (c .before .before .before .before .before .before .before .before .reach2 .ensures) (c .before .before .before .before .before .before .reached2 .given .1 ∙ ap reached.At (c .before .before .before .spot5 .given .1))))
+array-read-locals c = omega (arith, local-room (widthOf (c .before .before .before .before .before .before .before .before .before .before .before .before .before .fetched .given .0 .0)) (c .before .before .before .before .before .before .before .before .before .before .before .before .before .before .before .before .before .before .before .loop .cells) (told saysReached (c .before .before .before .before .before .before .before .before .reach2 .ensures) (c .before .before .before .before .before .before .reached2 .given .1 ∙ ap reached.At (c .before .before .before .spot5 .given .1))))
 
 mul-locals-2 : tie.Need-mul-locals-2 Inv-loop μ-loop
-mul-locals-2 c = omega (arith, local-room (c .before .before .before .before .before .before .before .before .before .before .width-of2 .result) (c .before .before .before .before .before .before .before .before .before .before .before .before .before .before .before .before .before .before .before .before .loop .cells) (told saysReached (c .before .before .before .before .before .before .before .before .reach2 .ensures) (c .before .before .before .before .before .before .reached2 .given .1 ∙ ap reached.At (c .before .before .before .spot5 .given .1))))
+mul-locals-2 c = omega (arith, local-room (widthOf (c .before .before .before .before .before .before .before .before .before .before .before .before .before .fetched .given .0 .0)) (c .before .before .before .before .before .before .before .before .before .before .before .before .before .before .before .before .before .before .before .loop .cells) (told saysReached (c .before .before .before .before .before .before .before .before .reach2 .ensures) (c .before .before .before .before .before .before .reached2 .given .1 ∙ ap reached.At (c .before .before .before .spot5 .given .1))))
 
 array-write-locals : tie.Need-array-write-locals Inv-loop μ-loop
-array-write-locals c = omega (arith, local-room (c .before .before .before .before .before .before .before .before .before .before .width-of2 .result) (c .before .before .before .before .before .before .before .before .before .before .before .before .before .before .before .before .before .before .before .before .loop .cells) (told saysReached (c .before .before .before .before .before .before .before .before .reach2 .ensures) (c .before .before .before .before .before .before .reached2 .given .1 ∙ ap reached.At (c .before .before .before .spot5 .given .1))))
+array-write-locals c = omega (arith, local-room (widthOf (c .before .before .before .before .before .before .before .before .before .before .before .before .before .fetched .given .0 .0)) (c .before .before .before .before .before .before .before .before .before .before .before .before .before .before .before .before .before .before .before .loop .cells) (told saysReached (c .before .before .before .before .before .before .before .before .reach2 .ensures) (c .before .before .before .before .before .before .reached2 .given .1 ∙ ap reached.At (c .before .before .before .spot5 .given .1))))
 
 mul-frames-2 : tie.Need-mul-frames-2 Inv-loop μ-loop
-mul-frames-2 c = omega (arith, local-room (c .before .before .before .before .before .before .before .before .before .before .width-of2 .result) (c .before .before .before .before .before .before .before .before .before .before .before .before .before .before .before .before .before .before .before .before .loop .cells) (told saysReached (c .before .before .before .before .before .before .before .before .reach2 .ensures) (c .before .before .before .before .before .before .reached2 .given .1 ∙ ap reached.At (c .before .before .before .spot5 .given .1))))
+mul-frames-2 c = omega (arith, local-room (widthOf (c .before .before .before .before .before .before .before .before .before .before .before .before .before .fetched .given .0 .0)) (c .before .before .before .before .before .before .before .before .before .before .before .before .before .before .before .before .before .before .before .loop .cells) (told saysReached (c .before .before .before .before .before .before .before .before .reach2 .ensures) (c .before .before .before .before .before .before .reached2 .given .1 ∙ ap reached.At (c .before .before .before .spot5 .given .1))))
 
 array-set-from-frames-2 : tie.Need-array-set-from-frames-2 Inv-loop μ-loop
-array-set-from-frames-2 c = omega (arith, local-room (c .before .before .before .before .before .before .before .before .before .before .width-of2 .result) (c .before .before .before .before .before .before .before .before .before .before .before .before .before .before .before .before .before .before .before .before .loop .cells) (told saysReached (c .before .before .before .before .before .before .before .before .reach2 .ensures) (c .before .before .before .before .before .before .reached2 .given .1 ∙ ap reached.At (c .before .before .before .spot5 .given .1))))
+array-set-from-frames-2 c = omega (arith, local-room (widthOf (c .before .before .before .before .before .before .before .before .before .before .before .before .before .fetched .given .0 .0)) (c .before .before .before .before .before .before .before .before .before .before .before .before .before .before .before .before .before .before .before .loop .cells) (told saysReached (c .before .before .before .before .before .before .before .before .reach2 .ensures) (c .before .before .before .before .before .before .reached2 .given .1 ∙ ap reached.At (c .before .before .before .spot5 .given .1))))
 
 sub-regs-7 : tie.Need-sub-regs-7 Inv-loop μ-loop
-sub-regs-7 c = omega (arith, local-room (c .before .before .before .before .before .before .before .before .before .before .width-of2 .result) (c .before .before .before .before .before .before .before .before .before .before .before .before .before .before .before .before .before .before .before .before .loop .cells) (told saysReached (c .before .before .before .before .before .before .before .before .reach2 .ensures) (c .before .before .before .before .before .before .reached2 .given .1 ∙ ap reached.At (c .before .before .before .spot5 .given .1))))
+sub-regs-7 c = omega (arith, local-room (widthOf (c .before .before .before .before .before .before .before .before .before .before .before .before .before .fetched .given .0 .0)) (c .before .before .before .before .before .before .before .before .before .before .before .before .before .before .before .before .before .before .before .loop .cells) (told saysReached (c .before .before .before .before .before .before .before .before .reach2 .ensures) (c .before .before .before .before .before .before .reached2 .given .1 ∙ ap reached.At (c .before .before .before .spot5 .given .1))))
 
 price-requires-12 : tie.Need-price-requires-12 Inv-loop μ-loop
 price-requires-12 c κs = search needs
@@ -661,7 +656,7 @@ loop-less-22 : tie.Need-loop-less-22 Inv-loop μ-loop
 loop-less-22 c = omega (arith, c .counted13 .ensures .1)
 
 loop-again-22 : tie.Need-loop-again-22 Inv-loop μ-loop
-loop-again-22 c = (goes (found (c .before .before .before .before .before .before .before .before .before .before .before .before .before .before .before .before)) (store-acts (found (c .before .before .before .before .before .before .before .before .before .before .before .before .before .before .before .before)) (c .before .before .before .before .before .before .before .before .before .before .before .before .before .before .match3 .keys8) (c .before .before .before .before .before .before .before .before .before .before .before .before .before .width-of2 .ensures)) (told saysReached (c .before .before .before .before .before .before .before .before .before .before .before .reach2 .ensures) (c .before .before .before .before .before .before .before .before .before .reached2 .given .1 ∙ ap reached.At (c .before .before .before .before .before .before .spot5 .given .1))) refl refl (c .before .price12 .ensures .0) (c .counted13 .ensures .0), c .before .before .before .before .before .before .before .before .before .before .before .before .before .before .before .before .before .before .before .before .before .before .before .loop .inv .1)
+loop-again-22 c = (goes (found (c .before .before .before .before .before .before .before .before .before .before .before .before .before .before .before)) (store-acts (found (c .before .before .before .before .before .before .before .before .before .before .before .before .before .before .before)) (c .before .before .before .before .before .before .before .before .before .before .before .before .before .match3 .keys8)) (told saysReached (c .before .before .before .before .before .before .before .before .before .before .before .reach2 .ensures) (c .before .before .before .before .before .before .before .before .before .reached2 .given .1 ∙ ap reached.At (c .before .before .before .before .before .before .spot5 .given .1))) refl refl (c .before .price12 .ensures .0) (c .counted13 .ensures .0), c .before .before .before .before .before .before .before .before .before .before .before .before .before .before .before .before .before .before .before .before .before .before .loop .inv .1)
 
 enum-known-spot-6 : tie.Need-enum-known-spot-6 Inv-loop μ-loop
 enum-known-spot-6 c = search needs
@@ -673,28 +668,28 @@ array-copy-out-level-4 : tie.Need-array-copy-out-level-4 Inv-loop μ-loop
 array-copy-out-level-4 c = search needs
 
 sub-held : tie.Need-sub-held Inv-loop μ-loop
-sub-held c = omega (arith, cell-room (c .before .before .before .before .before .before .before .before .before .before .width-of2 .result) (c .before .before .before .before .before .before .before .before .before .before .before .before .before .before .before .before .before .before .before .before .loop .cells) (told saysReached (c .before .before .before .before .before .before .before .before .reach2 .ensures) (c .before .before .before .before .before .before .reached2 .given .1 ∙ ap reached.At (c .before .before .before .spot6 .given .1))))
+sub-held c = omega (arith, cell-room (widthOf (c .before .before .before .before .before .before .before .before .before .before .before .before .before .fetched .given .0 .0)) (c .before .before .before .before .before .before .before .before .before .before .before .before .before .before .before .before .before .before .before .loop .cells) (told saysReached (c .before .before .before .before .before .before .before .before .reach2 .ensures) (c .before .before .before .before .before .before .reached2 .given .1 ∙ ap reached.At (c .before .before .before .spot6 .given .1))))
 
 mul-held : tie.Need-mul-held Inv-loop μ-loop
-mul-held c = omega (arith, cell-room (c .before .before .before .before .before .before .before .before .before .before .width-of2 .result) (c .before .before .before .before .before .before .before .before .before .before .before .before .before .before .before .before .before .before .before .before .loop .cells) (told saysReached (c .before .before .before .before .before .before .before .before .reach2 .ensures) (c .before .before .before .before .before .before .reached2 .given .1 ∙ ap reached.At (c .before .before .before .spot6 .given .1))))
+mul-held c = omega (arith, cell-room (widthOf (c .before .before .before .before .before .before .before .before .before .before .before .before .before .fetched .given .0 .0)) (c .before .before .before .before .before .before .before .before .before .before .before .before .before .before .before .before .before .before .before .loop .cells) (told saysReached (c .before .before .before .before .before .before .before .before .reach2 .ensures) (c .before .before .before .before .before .before .reached2 .given .1 ∙ ap reached.At (c .before .before .before .spot6 .given .1))))
 
 array-read-held : tie.Need-array-read-held Inv-loop μ-loop
-array-read-held c = omega (arith, cell-room (c .before .before .before .before .before .before .before .before .before .before .width-of2 .result) (c .before .before .before .before .before .before .before .before .before .before .before .before .before .before .before .before .before .before .before .before .loop .cells) (told saysReached (c .before .before .before .before .before .before .before .before .reach2 .ensures) (c .before .before .before .before .before .before .reached2 .given .1 ∙ ap reached.At (c .before .before .before .spot6 .given .1))))
+array-read-held c = omega (arith, cell-room (widthOf (c .before .before .before .before .before .before .before .before .before .before .before .before .before .fetched .given .0 .0)) (c .before .before .before .before .before .before .before .before .before .before .before .before .before .before .before .before .before .before .before .loop .cells) (told saysReached (c .before .before .before .before .before .before .before .before .reach2 .ensures) (c .before .before .before .before .before .before .reached2 .given .1 ∙ ap reached.At (c .before .before .before .spot6 .given .1))))
 
 mul-held-2 : tie.Need-mul-held-2 Inv-loop μ-loop
-mul-held-2 c = omega (arith, cell-room (c .before .before .before .before .before .before .before .before .before .before .width-of2 .result) (c .before .before .before .before .before .before .before .before .before .before .before .before .before .before .before .before .before .before .before .before .loop .cells) (told saysReached (c .before .before .before .before .before .before .before .before .reach2 .ensures) (c .before .before .before .before .before .before .reached2 .given .1 ∙ ap reached.At (c .before .before .before .spot6 .given .1))))
+mul-held-2 c = omega (arith, cell-room (widthOf (c .before .before .before .before .before .before .before .before .before .before .before .before .before .fetched .given .0 .0)) (c .before .before .before .before .before .before .before .before .before .before .before .before .before .before .before .before .before .before .before .loop .cells) (told saysReached (c .before .before .before .before .before .before .before .before .reach2 .ensures) (c .before .before .before .before .before .before .reached2 .given .1 ∙ ap reached.At (c .before .before .before .spot6 .given .1))))
 
 array-write-held : tie.Need-array-write-held Inv-loop μ-loop
-array-write-held c = omega (arith, cell-room (c .before .before .before .before .before .before .before .before .before .before .width-of2 .result) (c .before .before .before .before .before .before .before .before .before .before .before .before .before .before .before .before .before .before .before .before .loop .cells) (told saysReached (c .before .before .before .before .before .before .before .before .reach2 .ensures) (c .before .before .before .before .before .before .reached2 .given .1 ∙ ap reached.At (c .before .before .before .spot6 .given .1))))
+array-write-held c = omega (arith, cell-room (widthOf (c .before .before .before .before .before .before .before .before .before .before .before .before .before .fetched .given .0 .0)) (c .before .before .before .before .before .before .before .before .before .before .before .before .before .before .before .before .before .before .before .loop .cells) (told saysReached (c .before .before .before .before .before .before .before .before .reach2 .ensures) (c .before .before .before .before .before .before .reached2 .given .1 ∙ ap reached.At (c .before .before .before .spot6 .given .1))))
 
 mul-levels-2 : tie.Need-mul-levels-2 Inv-loop μ-loop
-mul-levels-2 c = omega (arith, cell-room (c .before .before .before .before .before .before .before .before .before .before .width-of2 .result) (c .before .before .before .before .before .before .before .before .before .before .before .before .before .before .before .before .before .before .before .before .loop .cells) (told saysReached (c .before .before .before .before .before .before .before .before .reach2 .ensures) (c .before .before .before .before .before .before .reached2 .given .1 ∙ ap reached.At (c .before .before .before .spot6 .given .1))))
+mul-levels-2 c = omega (arith, cell-room (widthOf (c .before .before .before .before .before .before .before .before .before .before .before .before .before .fetched .given .0 .0)) (c .before .before .before .before .before .before .before .before .before .before .before .before .before .before .before .before .before .before .before .loop .cells) (told saysReached (c .before .before .before .before .before .before .before .before .reach2 .ensures) (c .before .before .before .before .before .before .reached2 .given .1 ∙ ap reached.At (c .before .before .before .spot6 .given .1))))
 
 array-set-from-levels-2 : tie.Need-array-set-from-levels-2 Inv-loop μ-loop
-array-set-from-levels-2 c = omega (arith, cell-room (c .before .before .before .before .before .before .before .before .before .before .width-of2 .result) (c .before .before .before .before .before .before .before .before .before .before .before .before .before .before .before .before .before .before .before .before .loop .cells) (told saysReached (c .before .before .before .before .before .before .before .before .reach2 .ensures) (c .before .before .before .before .before .before .reached2 .given .1 ∙ ap reached.At (c .before .before .before .spot6 .given .1))))
+array-set-from-levels-2 c = omega (arith, cell-room (widthOf (c .before .before .before .before .before .before .before .before .before .before .before .before .before .fetched .given .0 .0)) (c .before .before .before .before .before .before .before .before .before .before .before .before .before .before .before .before .before .before .before .loop .cells) (told saysReached (c .before .before .before .before .before .before .before .before .reach2 .ensures) (c .before .before .before .before .before .before .reached2 .given .1 ∙ ap reached.At (c .before .before .before .spot6 .given .1))))
 
 sub-regs-8 : tie.Need-sub-regs-8 Inv-loop μ-loop
-sub-regs-8 c = omega (arith, cell-room (c .before .before .before .before .before .before .before .before .before .before .width-of2 .result) (c .before .before .before .before .before .before .before .before .before .before .before .before .before .before .before .before .before .before .before .before .loop .cells) (told saysReached (c .before .before .before .before .before .before .before .before .reach2 .ensures) (c .before .before .before .before .before .before .reached2 .given .1 ∙ ap reached.At (c .before .before .before .spot6 .given .1))))
+sub-regs-8 c = omega (arith, cell-room (widthOf (c .before .before .before .before .before .before .before .before .before .before .before .before .before .fetched .given .0 .0)) (c .before .before .before .before .before .before .before .before .before .before .before .before .before .before .before .before .before .before .before .loop .cells) (told saysReached (c .before .before .before .before .before .before .before .before .reach2 .ensures) (c .before .before .before .before .before .before .reached2 .given .1 ∙ ap reached.At (c .before .before .before .spot6 .given .1))))
 
 price-requires-13 : tie.Need-price-requires-13 Inv-loop μ-loop
 price-requires-13 c κs = search needs
@@ -706,7 +701,7 @@ loop-less-23 : tie.Need-loop-less-23 Inv-loop μ-loop
 loop-less-23 c = omega (arith, c .counted14 .ensures .1)
 
 loop-again-23 : tie.Need-loop-again-23 Inv-loop μ-loop
-loop-again-23 c = (goes (found (c .before .before .before .before .before .before .before .before .before .before .before .before .before .before .before .before)) (store-acts (found (c .before .before .before .before .before .before .before .before .before .before .before .before .before .before .before .before)) (c .before .before .before .before .before .before .before .before .before .before .before .before .before .before .match3 .keys8) (c .before .before .before .before .before .before .before .before .before .before .before .before .before .width-of2 .ensures)) (told saysReached (c .before .before .before .before .before .before .before .before .before .before .before .reach2 .ensures) (c .before .before .before .before .before .before .before .before .before .reached2 .given .1 ∙ ap reached.At (c .before .before .before .before .before .before .spot6 .given .1))) refl refl (c .before .price13 .ensures .0) (c .counted14 .ensures .0), c .before .before .before .before .before .before .before .before .before .before .before .before .before .before .before .before .before .before .before .before .before .before .before .loop .inv .1)
+loop-again-23 c = (goes (found (c .before .before .before .before .before .before .before .before .before .before .before .before .before .before .before)) (store-acts (found (c .before .before .before .before .before .before .before .before .before .before .before .before .before .before .before)) (c .before .before .before .before .before .before .before .before .before .before .before .before .before .match3 .keys8)) (told saysReached (c .before .before .before .before .before .before .before .before .before .before .before .reach2 .ensures) (c .before .before .before .before .before .before .before .before .before .reached2 .given .1 ∙ ap reached.At (c .before .before .before .before .before .before .spot6 .given .1))) refl refl (c .before .price13 .ensures .0) (c .counted14 .ensures .0), c .before .before .before .before .before .before .before .before .before .before .before .before .before .before .before .before .before .before .before .before .before .before .loop .inv .1)
 
 can-call-requires : tie.Need-can-call-requires Inv-loop μ-loop
 can-call-requires c κs = search needs
@@ -1008,7 +1003,7 @@ rounds-spec =
     add-frames
     mul-frames
     array-set-from-frames
-    sub-t113
+    sub-t111
     wrapping-add-u32-requires
     add-levels
     mul-levels
@@ -1050,7 +1045,6 @@ rounds-spec =
     counted-requires-8
     loop-less-15
     loop-again-15
-    width-of-requires
     reach-requires
     enum-known-reached
     enum-told-13
@@ -1090,7 +1084,6 @@ rounds-spec =
     counted-requires-11
     loop-less-19
     loop-again-19
-    width-of-requires-2
     reach-requires-2
     enum-known-reached-2
     enum-told-14

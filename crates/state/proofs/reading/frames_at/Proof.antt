@@ -1,12 +1,9 @@
--- Made by .ci/named from frames_at.rules: d5728d12fedd07f7 9484ad04a85ad45c
+-- Made by .ci/named from frames_at.rules: 27af04ba1801df97 d52f3e174405ec85
 -- Before pass i the first i frames stand in the state.
-use mathlib.Core.Path.{ap, _∙_}
+use mathlib.Core.Path.{refl}
 use Prim.Native.Nat.{_-_}
 use native.Mathlib.Omega.{arith}
-use lib.ListN.{length}
 use Rattle.links.specs.Depths.{framesCount}
-use Rattle.links.specs.declared.Links.{Links}
-use Rattle.links.specs.Laws.Fresh.{fresh-shaped}
 use Rattle.state.specs.Layout.{frame}
 use Rattle.state.proofs.Standing.{Filling, filling-none, filling-more, filling-all}
 use borrow.Author.Needs.{needs}
@@ -19,11 +16,8 @@ Inv-loop state from xs₀ i₀ xs i = Filling frame state from framesCount xs i
 abbrev μ-loop : tie.MeasureT-loop
 μ-loop state from xs₀ i₀ xs i = framesCount - i
 
-fresh-requires : tie.Need-fresh-requires Inv-loop μ-loop
-fresh-requires c κs = search needs
-
 loop-holds : tie.Need-loop-holds Inv-loop μ-loop
-loop-holds c = filling-none frame (c .before .before .before .args .state .now) (c .before .before .before .args .from) framesCount (c .before .fresh .result .frames) (ap (λ (l : Links). length (l .frames)) (c .before .fresh .ensures) ∙ fresh-shaped .frames-long)
+loop-holds c = filling-none frame (c .before .args .state .now) (c .before .args .from) framesCount _ refl
 
 mul-frame-at : tie.Need-mul-frame-at Inv-loop μ-loop
 mul-frame-at c = search needs
@@ -47,16 +41,15 @@ loop-less : tie.Need-loop-less Inv-loop μ-loop
 loop-less c = search needs
 
 loop-again : tie.Need-loop-again Inv-loop μ-loop
-loop-again c = filling-more frame (c .before .before .before .before .before .before .args .state .now) (c .before .before .before .before .before .before .args .from) framesCount (c .before .before .loop .inv) (omega arith) (c .frame-at .result) (c .frame-at .ensures)
+loop-again c = filling-more frame (c .before .before .before .before .args .state .now) (c .before .before .before .before .args .from) framesCount (c .before .before .loop .inv) (omega arith) (c .frame-at .result) (c .frame-at .ensures)
 
 returns : tie.Need-returns Inv-loop μ-loop
-returns c = filling-all frame (c .before .before .before .before .before .args .state .now) (c .before .before .before .before .before .args .from) framesCount (c .before .loop .inv) (omega arith)
+returns c = filling-all frame (c .before .before .before .args .state .now) (c .before .before .before .args .from) framesCount (c .before .loop .inv) (omega arith)
 
 pub frames-at-spec : {M : Type 1} → statement M
 frames-at-spec =
     tie.close
     (tie.spec Inv-loop μ-loop
-    fresh-requires
     loop-holds
     mul-frame-at
     add-frame-at

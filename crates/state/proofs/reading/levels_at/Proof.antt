@@ -1,12 +1,9 @@
--- Made by .ci/named from levels_at.rules: cd9c877a065ef67b 79d6989faf64b713
+-- Made by .ci/named from levels_at.rules: 2c85afcc25fb9e45 ae294ec85b688b30
 -- Before pass i the first i levels stand in the state.
-use mathlib.Core.Path.{ap, _∙_}
+use mathlib.Core.Path.{refl}
 use Prim.Native.Nat.{_-_}
 use native.Mathlib.Omega.{arith}
-use lib.ListN.{length}
 use Rattle.links.specs.Depths.{levelsCount}
-use Rattle.links.specs.declared.Links.{Links}
-use Rattle.links.specs.Laws.Fresh.{fresh-shaped}
 use Rattle.state.specs.Layout.{level}
 use Rattle.state.proofs.Standing.{Filling, filling-none, filling-more, filling-all}
 use borrow.Author.Needs.{needs}
@@ -19,11 +16,8 @@ Inv-loop state from xs₀ i₀ xs i = Filling level state from levelsCount xs i
 abbrev μ-loop : tie.MeasureT-loop
 μ-loop state from xs₀ i₀ xs i = levelsCount - i
 
-fresh-requires : tie.Need-fresh-requires Inv-loop μ-loop
-fresh-requires c κs = search needs
-
 loop-holds : tie.Need-loop-holds Inv-loop μ-loop
-loop-holds c = filling-none level (c .before .before .before .args .state .now) (c .before .before .before .args .from) levelsCount (c .before .fresh .result .levels) (ap (λ (l : Links). length (l .levels)) (c .before .fresh .ensures) ∙ fresh-shaped .levels-long)
+loop-holds c = filling-none level (c .before .args .state .now) (c .before .args .from) levelsCount _ refl
 
 mul-level-at : tie.Need-mul-level-at Inv-loop μ-loop
 mul-level-at c = search needs
@@ -47,16 +41,15 @@ loop-less : tie.Need-loop-less Inv-loop μ-loop
 loop-less c = search needs
 
 loop-again : tie.Need-loop-again Inv-loop μ-loop
-loop-again c = filling-more level (c .before .before .before .before .before .before .args .state .now) (c .before .before .before .before .before .before .args .from) levelsCount (c .before .before .loop .inv) (omega arith) (c .level-at .result) (c .level-at .ensures)
+loop-again c = filling-more level (c .before .before .before .before .args .state .now) (c .before .before .before .before .args .from) levelsCount (c .before .before .loop .inv) (omega arith) (c .level-at .result) (c .level-at .ensures)
 
 returns : tie.Need-returns Inv-loop μ-loop
-returns c = filling-all level (c .before .before .before .before .before .args .state .now) (c .before .before .before .before .before .args .from) levelsCount (c .before .loop .inv) (omega arith)
+returns c = filling-all level (c .before .before .before .args .state .now) (c .before .before .before .args .from) levelsCount (c .before .loop .inv) (omega arith)
 
 pub levels-at-spec : {M : Type 1} → statement M
 levels-at-spec =
     tie.close
     (tie.spec Inv-loop μ-loop
-    fresh-requires
     loop-holds
     mul-level-at
     add-level-at

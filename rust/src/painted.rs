@@ -1,0 +1,88 @@
+//! The exported functions on a painted stack: how often each was called, and the deepest seen.
+
+use std::convert::Infallible;
+
+use crate::boundary::{painted_bench, painted_read_image, painted_run_state, Painted};
+use crate::chains::{Lengths, Runner};
+use crate::comparison::{lent, Room};
+use crate::model::run::run;
+use crate::model::state::{Machine, MEMORY};
+use crate::state_bytes::{READ_RESULT_BYTES, RESULT_BYTES, STATE_BYTES};
+
+/// No byte has the colour of both: what is written in the one is seen on the other.
+const PAINTS: [u8; 2] = [0xA5, 0x5A];
+
+/// What has been seen of one function.
+#[derive(Default)]
+pub struct Depth {
+    pub calls: u64,
+    pub deepest: u64,
+}
+
+impl Depth {
+    /// Makes a call once on each paint; gives its answer.
+    fn seen(&mut self, mut call: impl FnMut(u8) -> Painted) -> u64 {
+        let made = PAINTS.map(&mut call);
+        self.calls += 1;
+        self.deepest = made.iter().map(|made| made.stack).fold(self.deepest, u64::max);
+        made[0].answer
+    }
+}
+
+#[derive(Default)]
+pub struct Depths {
+    pub bench: Depth,
+    pub read_image: Depth,
+    pub run_state: Depth,
+}
+
+impl Depths {
+    /// Runs an image, and reads it; where it is read, its state is run too.
+    pub fn image(&mut self, file: &[u8], memory_length: usize, room: Room) {
+        let mut memory = vec![0; memory_length];
+        let text = self.run_image(file, &mut memory, Room::Plenty.bytes(0));
+        if !matches!(room, Room::Plenty) {
+            self.run_image(file, &mut memory, room.bytes(text as usize));
+        }
+        let mut state = [0; STATE_BYTES];
+        let mut budget = [0; READ_RESULT_BYTES];
+        let answer =
+            self.read_image.seen(|paint| painted_read_image(paint, file, &mut memory, &mut state, &mut budget));
+        if answer == 0 {
+            self.run_bytes(&state, &memory, u64::from_be_bytes(budget), RESULT_BYTES);
+        }
+    }
+
+    fn run_image(&mut self, file: &[u8], memory: &mut [u8], out_length: usize) -> u64 {
+        let mut out = vec![0; out_length];
+        self.bench.seen(|paint| painted_bench(paint, file, memory, &mut out))
+    }
+
+    fn run_bytes(&mut self, state: &[u8], memory: &[u8], budget: u64, result_length: usize) {
+        let mut result = vec![0; result_length];
+        self.run_state.seen(|paint| {
+            let (mut state, mut memory) = (state.to_vec(), memory.to_vec());
+            painted_run_state(paint, &mut state, &mut memory, budget, &mut result)
+        });
+    }
+}
+
+impl Runner for Depths {
+    type Failure = Infallible;
+
+    /// The model takes machine and memory on to the next run.
+    fn state(
+        &mut self,
+        _kind: &'static str,
+        machine: &mut Machine,
+        memory: &mut Vec<u8>,
+        budget: u64,
+        lengths: Lengths,
+    ) -> Result<(), Infallible> {
+        memory.resize(lengths.memory, 0);
+        self.run_bytes(&lent(machine, lengths.state), memory, budget, lengths.result);
+        run(machine, memory, budget, &mut ());
+        memory.resize(MEMORY, 0);
+        Ok(())
+    }
+}
