@@ -21,9 +21,9 @@ enum {
     GLIDECOTTON_STATE = 3528,          /* bytes of a state */
     GLIDECOTTON_RESULT = 24,           /* bytes of a run's result */
     GLIDECOTTON_READ_RESULT = 8,       /* bytes of the reader's result */
-    GLIDECOTTON_STACK = 9216           /* bytes of stack that are enough for a call; rust/stack measures it. On Arm a run takes 8,304
-                                          at the most, a bench 6,896 and a read 3,632; before request P7 a run took 13,760.
-                                          Compiled for x86-64 their frames are 8,488, 6,888 and 3,784, where a run had 14,136 */
+    GLIDECOTTON_STACK = 9216           /* bytes of stack that are enough for a call; rust/stack measures it. On Arm a run takes 8,256
+                                          at the most, a bench 6,800 and a read 3,632; before request P7 it was 13,760, 6,896 and
+                                          3,632. Compiled for x86-64 their frames are 8,392, 6,792 and 3,784 */
 };
 
 /* Where a state has what. All zeros are a fresh machine. A cell, an address, the counter and the flag take 4 bytes, a pointer or

@@ -291,6 +291,16 @@ module _ {mem₀ : List ℕ} {m₀ : Machine} {budget : ℕ} {mem cells returns 
         storedBy w (spot.Memory a) ≡ done mem′ (machineIn cells returns frames levels lowered) (cyclesOf code)
     written-there w a e = ap (λ (l : List ℕ). done l (machineIn cells returns frames levels lowered) (cyclesOf code)) (sym e)
 
+    pub in-frame : (w : Width) (k : ℕ) {f : Frame} →
+        (let frame = getD frames (g .s) noFrame in f ≡ record { locals = set (frame .locals) k (getD cells (g .p - 2) 0); r = frame .r; address = frame .address }) →
+        storedBy w (spot.Local k) ≡ done mem (machineIn cells returns (set frames (g .s) f) levels lowered) (cyclesOf code)
+    in-frame w k e = ap (λ (f : Frame). done mem (machineIn cells returns (set frames (g .s) f) levels lowered) (cyclesOf code)) (sym e)
+
+    pub in-level : (w : Width) (k : ℕ) {l : Level} →
+        (let level = getD levels (g .e) noLevel in l ≡ record { cells = set (level .cells) k (getD cells (g .p - 2) 0); s = level .s; p = level .p; address = level .address }) →
+        storedBy w (spot.Cell k) ≡ done mem (machineIn cells returns frames (set levels (g .e) l) lowered) (cyclesOf code)
+    in-level w k e = ap (λ (l : Level). done mem (machineIn cells returns frames (set levels (g .e) l) lowered) (cyclesOf code)) (sym e)
+
     -- a store to a local leaves the exception cells as they are, and the other way round
     same-level : set levels (g .e) (getD levels (g .e) noLevel) ≡ levels
     same-level = set-getD levels (g .e) noLevel

@@ -13,6 +13,7 @@ mod place;
 mod price;
 mod round;
 mod tally;
+mod view;
 
 use machine::Cycles;
 use machine::Machine;

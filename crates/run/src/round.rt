@@ -16,6 +16,7 @@ use crate::leave;
 use crate::memory;
 use crate::price;
 use crate::tally;
+use crate::view;
 use links::Frame;
 use links::Level;
 use links::Links;
@@ -251,15 +252,13 @@ pub(crate) fn rounds(mem: &mut [u8], start: Machine, budget: u32) -> Ran
                     }
                     Spot::Local(k) => {
                         let frame = frames[s];
-                        let locals = frame.locals;
-                        cells[p - 1] = locals[k];
+                        cells[p - 1] = view::local(frame, k);
                         regs.counter = next;
                         regs = tally::counted(regs, price::price(&costs, code));
                     }
                     Spot::Cell(k) => {
                         let level = levels[e];
-                        let held = level.cells;
-                        cells[p - 1] = held[k];
+                        cells[p - 1] = view::cell(level, k);
                         regs.counter = next;
                         regs = tally::counted(regs, price::price(&costs, code));
                     }
@@ -281,27 +280,14 @@ pub(crate) fn rounds(mem: &mut [u8], start: Machine, budget: u32) -> Ran
                     }
                     Spot::Local(k) => {
                         let frame = frames[s];
-                        let mut locals = frame.locals;
-                        locals[k] = cells[p - 2];
-                        frames[s] = Frame {
-                            locals,
-                            r: frame.r,
-                            address: frame.address,
-                        };
+                        frames[s] = view::with_local(frame, k, cells[p - 2]);
                         regs.p = p - 2;
                         regs.counter = next;
                         regs = tally::counted(regs, price::price(&costs, code));
                     }
                     Spot::Cell(k) => {
                         let level = levels[e];
-                        let mut held = level.cells;
-                        held[k] = cells[p - 2];
-                        levels[e] = Level {
-                            cells: held,
-                            s: level.s,
-                            p: level.p,
-                            address: level.address,
-                        };
+                        levels[e] = view::with_cell(level, k, cells[p - 2]);
                         regs.p = p - 2;
                         regs.counter = next;
                         regs = tally::counted(regs, price::price(&costs, code));

@@ -1,4 +1,4 @@
--- Made by .ci/named from rounds.rules: 821925cc8d663af3 03736e3627305ba7
+-- Made by .ci/named from rounds.rules: 5a4eddd93093662d de6c61549cb81480
 -- The loop is the definition's run: each round is one step of `stepOf`, and what ends it is the definition's own.
 use mathlib.Core.Path.{_≡_, refl, ap, sym, _∙_}
 use mathlib.Core.Logic.{inl, inr}
@@ -12,7 +12,7 @@ use Rattle.run.specs.Registers.{machineIn}
 use Rattle.run.specs.declared.Reached.the-variants as reached
 use Rattle.run.specs.declared.Thrown.the-variants as thrown
 use Rattle.run.proofs.Answered.{told}
-use Rattle.run.proofs.Arms.{push-acts, copy-acts, pop-acts, catch-acts, reset-acts, throw-acts, exit-acts, call-acts, call-top-acts, fetch-acts, fetchedAs, store-acts, written-there, cells-acts, cells-end}
+use Rattle.run.proofs.Arms.{push-acts, copy-acts, pop-acts, catch-acts, reset-acts, throw-acts, exit-acts, call-acts, call-top-acts, fetch-acts, fetchedAs, store-acts, written-there, in-frame, in-level, cells-acts, cells-end}
 use Rattle.run.proofs.Loop.{starts, length-mapped}
 use Rattle.run.proofs.Rooms.{push-room, read-room, call-room, catch-room, exit-room, zero-room, code-room, memory-room, local-room, cell-room}
 use Rattle.run.proofs.Rounds.{Round, begins, Found, ends, goes, fetch-ends, halted-less}
@@ -321,8 +321,8 @@ mul-frames c = omega (arith, catch-room (told saysChecked (c .before .before .be
 array-set-from-frames : tie.Need-array-set-from-frames Inv-loop μ-loop
 array-set-from-frames c = omega (arith, catch-room (told saysChecked (c .before .before .before .before .can-catch .ensures) (c .before .before .enum-told9 .given .1)))
 
-sub-t111 : tie.Need-sub-t111 Inv-loop μ-loop
-sub-t111 c = omega (arith, catch-room (told saysChecked (c .before .before .before .before .can-catch .ensures) (c .before .before .enum-told9 .given .1)))
+sub-t107 : tie.Need-sub-t107 Inv-loop μ-loop
+sub-t107 c = omega (arith, catch-room (told saysChecked (c .before .before .before .before .can-catch .ensures) (c .before .before .enum-told9 .given .1)))
 
 wrapping-add-u32-requires : tie.Need-wrapping-add-u32-requires Inv-loop μ-loop
 wrapping-add-u32-requires c κs = search needs
@@ -502,17 +502,14 @@ mul-frame-3 c = search needs
 array-copy-out-frame-3 : tie.Need-array-copy-out-frame-3 Inv-loop μ-loop
 array-copy-out-frame-3 c = search needs
 
-mul-cells-7 : tie.Need-mul-cells-7 Inv-loop μ-loop
-mul-cells-7 c = omega (arith, local-room (widthOf (c .before .before .before .before .before .before .before .before .before .before .before .before .before .fetched .given .0 .0)) (c .before .before .before .before .before .before .before .before .before .before .before .before .before .before .before .before .before .before .before .loop .cells) (told saysReached (c .before .before .before .before .before .before .before .before .reach .ensures) (c .before .before .before .before .before .before .reached .given .1 ∙ ap reached.At (c .before .before .before .spot2 .given .1))))
-
-array-read-cells-3 : tie.Need-array-read-cells-3 Inv-loop μ-loop
-array-read-cells-3 c = omega (arith, local-room (widthOf (c .before .before .before .before .before .before .before .before .before .before .before .before .before .fetched .given .0 .0)) (c .before .before .before .before .before .before .before .before .before .before .before .before .before .before .before .before .before .before .before .loop .cells) (told saysReached (c .before .before .before .before .before .before .before .before .reach .ensures) (c .before .before .before .before .before .before .reached .given .1 ∙ ap reached.At (c .before .before .before .spot2 .given .1))))
+local-requires : tie.Need-local-requires Inv-loop μ-loop
+local-requires c κs = omega (arith, local-room (widthOf (c .before .before .before .before .before .before .before .before .before .before .before .before .fetched .given .0 .0)) (c .before .before .before .before .before .before .before .before .before .before .before .before .before .before .before .before .before .before .loop .cells) (told saysReached (c .before .before .before .before .before .before .before .reach .ensures) (c .before .before .before .before .before .reached .given .1 ∙ ap reached.At (c .before .before .spot2 .given .1))))
 
 sub-cells-4 : tie.Need-sub-cells-4 Inv-loop μ-loop
 sub-cells-4 c = omega (arith, local-room (widthOf (c .before .before .before .before .before .before .before .before .before .before .before .before .before .fetched .given .0 .0)) (c .before .before .before .before .before .before .before .before .before .before .before .before .before .before .before .before .before .before .before .loop .cells) (told saysReached (c .before .before .before .before .before .before .before .before .reach .ensures) (c .before .before .before .before .before .before .reached .given .1 ∙ ap reached.At (c .before .before .before .spot2 .given .1))))
 
-mul-cells-8 : tie.Need-mul-cells-8 Inv-loop μ-loop
-mul-cells-8 c = omega (arith, local-room (widthOf (c .before .before .before .before .before .before .before .before .before .before .before .before .before .fetched .given .0 .0)) (c .before .before .before .before .before .before .before .before .before .before .before .before .before .before .before .before .before .before .before .loop .cells) (told saysReached (c .before .before .before .before .before .before .before .before .reach .ensures) (c .before .before .before .before .before .before .reached .given .1 ∙ ap reached.At (c .before .before .before .spot2 .given .1))))
+mul-cells-7 : tie.Need-mul-cells-7 Inv-loop μ-loop
+mul-cells-7 c = omega (arith, local-room (widthOf (c .before .before .before .before .before .before .before .before .before .before .before .before .before .fetched .given .0 .0)) (c .before .before .before .before .before .before .before .before .before .before .before .before .before .before .before .before .before .before .before .loop .cells) (told saysReached (c .before .before .before .before .before .before .before .before .reach .ensures) (c .before .before .before .before .before .before .reached .given .1 ∙ ap reached.At (c .before .before .before .spot2 .given .1))))
 
 array-write-cells-5 : tie.Need-array-write-cells-5 Inv-loop μ-loop
 array-write-cells-5 c = omega (arith, local-room (widthOf (c .before .before .before .before .before .before .before .before .before .before .before .before .before .fetched .given .0 .0)) (c .before .before .before .before .before .before .before .before .before .before .before .before .before .before .before .before .before .before .before .loop .cells) (told saysReached (c .before .before .before .before .before .before .before .before .reach .ensures) (c .before .before .before .before .before .before .reached .given .1 ∙ ap reached.At (c .before .before .before .spot2 .given .1))))
@@ -527,7 +524,7 @@ loop-less-18 : tie.Need-loop-less-18 Inv-loop μ-loop
 loop-less-18 c = omega (arith, c .counted10 .ensures .1)
 
 loop-again-18 : tie.Need-loop-again-18 Inv-loop μ-loop
-loop-again-18 c = (goes (found (c .before .before .before .before .before .before .before .before .before .before .before .before .before .before .before)) (fetch-acts (found (c .before .before .before .before .before .before .before .before .before .before .before .before .before .before .before)) (c .before .before .before .before .before .before .before .before .before .before .before .before .before .match3 .keys7)) (told saysReached (c .before .before .before .before .before .before .before .before .before .before .before .reach .ensures) (c .before .before .before .before .before .before .before .before .before .reached .given .1 ∙ ap reached.At (c .before .before .before .before .before .before .spot2 .given .1))) refl refl (c .before .price9 .ensures .0) (c .counted10 .ensures .0), c .before .before .before .before .before .before .before .before .before .before .before .before .before .before .before .before .before .before .before .before .before .before .loop .inv .1)
+loop-again-18 c = (goes (found (c .before .before .before .before .before .before .before .before .before .before .before .before .before .before .before)) (fetch-acts (found (c .before .before .before .before .before .before .before .before .before .before .before .before .before .before .before)) (c .before .before .before .before .before .before .before .before .before .before .before .before .before .match3 .keys7)) (told saysReached (c .before .before .before .before .before .before .before .before .before .before .before .reach .ensures) (c .before .before .before .before .before .before .before .before .before .reached .given .1 ∙ ap reached.At (c .before .before .before .before .before .before .spot2 .given .1))) (ap (fetchedAs (found (c .before .before .before .before .before .before .before .before .before .before .before .before .before .before .before))) (sym (c .before .before .before .local .ensures))) refl (c .before .price9 .ensures .0) (c .counted10 .ensures .0), c .before .before .before .before .before .before .before .before .before .before .before .before .before .before .before .before .before .before .before .before .before .before .loop .inv .1)
 
 enum-known-spot-3 : tie.Need-enum-known-spot-3 Inv-loop μ-loop
 enum-known-spot-3 c = search needs
@@ -538,17 +535,14 @@ mul-level-3 c = search needs
 array-copy-out-level-3 : tie.Need-array-copy-out-level-3 Inv-loop μ-loop
 array-copy-out-level-3 c = search needs
 
-mul-cells-9 : tie.Need-mul-cells-9 Inv-loop μ-loop
-mul-cells-9 c = omega (arith, cell-room (widthOf (c .before .before .before .before .before .before .before .before .before .before .before .before .before .fetched .given .0 .0)) (c .before .before .before .before .before .before .before .before .before .before .before .before .before .before .before .before .before .before .before .loop .cells) (told saysReached (c .before .before .before .before .before .before .before .before .reach .ensures) (c .before .before .before .before .before .before .reached .given .1 ∙ ap reached.At (c .before .before .before .spot3 .given .1))))
-
-array-read-cells-4 : tie.Need-array-read-cells-4 Inv-loop μ-loop
-array-read-cells-4 c = omega (arith, cell-room (widthOf (c .before .before .before .before .before .before .before .before .before .before .before .before .before .fetched .given .0 .0)) (c .before .before .before .before .before .before .before .before .before .before .before .before .before .before .before .before .before .before .before .loop .cells) (told saysReached (c .before .before .before .before .before .before .before .before .reach .ensures) (c .before .before .before .before .before .before .reached .given .1 ∙ ap reached.At (c .before .before .before .spot3 .given .1))))
+cell-requires : tie.Need-cell-requires Inv-loop μ-loop
+cell-requires c κs = omega (arith, cell-room (widthOf (c .before .before .before .before .before .before .before .before .before .before .before .before .fetched .given .0 .0)) (c .before .before .before .before .before .before .before .before .before .before .before .before .before .before .before .before .before .before .loop .cells) (told saysReached (c .before .before .before .before .before .before .before .reach .ensures) (c .before .before .before .before .before .reached .given .1 ∙ ap reached.At (c .before .before .spot3 .given .1))))
 
 sub-cells-5 : tie.Need-sub-cells-5 Inv-loop μ-loop
 sub-cells-5 c = omega (arith, cell-room (widthOf (c .before .before .before .before .before .before .before .before .before .before .before .before .before .fetched .given .0 .0)) (c .before .before .before .before .before .before .before .before .before .before .before .before .before .before .before .before .before .before .before .loop .cells) (told saysReached (c .before .before .before .before .before .before .before .before .reach .ensures) (c .before .before .before .before .before .before .reached .given .1 ∙ ap reached.At (c .before .before .before .spot3 .given .1))))
 
-mul-cells-10 : tie.Need-mul-cells-10 Inv-loop μ-loop
-mul-cells-10 c = omega (arith, cell-room (widthOf (c .before .before .before .before .before .before .before .before .before .before .before .before .before .fetched .given .0 .0)) (c .before .before .before .before .before .before .before .before .before .before .before .before .before .before .before .before .before .before .before .loop .cells) (told saysReached (c .before .before .before .before .before .before .before .before .reach .ensures) (c .before .before .before .before .before .before .reached .given .1 ∙ ap reached.At (c .before .before .before .spot3 .given .1))))
+mul-cells-8 : tie.Need-mul-cells-8 Inv-loop μ-loop
+mul-cells-8 c = omega (arith, cell-room (widthOf (c .before .before .before .before .before .before .before .before .before .before .before .before .before .fetched .given .0 .0)) (c .before .before .before .before .before .before .before .before .before .before .before .before .before .before .before .before .before .before .before .loop .cells) (told saysReached (c .before .before .before .before .before .before .before .before .reach .ensures) (c .before .before .before .before .before .before .reached .given .1 ∙ ap reached.At (c .before .before .before .spot3 .given .1))))
 
 array-write-cells-6 : tie.Need-array-write-cells-6 Inv-loop μ-loop
 array-write-cells-6 c = omega (arith, cell-room (widthOf (c .before .before .before .before .before .before .before .before .before .before .before .before .before .fetched .given .0 .0)) (c .before .before .before .before .before .before .before .before .before .before .before .before .before .before .before .before .before .before .before .loop .cells) (told saysReached (c .before .before .before .before .before .before .before .before .reach .ensures) (c .before .before .before .before .before .before .reached .given .1 ∙ ap reached.At (c .before .before .before .spot3 .given .1))))
@@ -563,7 +557,7 @@ loop-less-19 : tie.Need-loop-less-19 Inv-loop μ-loop
 loop-less-19 c = omega (arith, c .counted11 .ensures .1)
 
 loop-again-19 : tie.Need-loop-again-19 Inv-loop μ-loop
-loop-again-19 c = (goes (found (c .before .before .before .before .before .before .before .before .before .before .before .before .before .before .before)) (fetch-acts (found (c .before .before .before .before .before .before .before .before .before .before .before .before .before .before .before)) (c .before .before .before .before .before .before .before .before .before .before .before .before .before .match3 .keys7)) (told saysReached (c .before .before .before .before .before .before .before .before .before .before .before .reach .ensures) (c .before .before .before .before .before .before .before .before .before .reached .given .1 ∙ ap reached.At (c .before .before .before .before .before .before .spot3 .given .1))) refl refl (c .before .price10 .ensures .0) (c .counted11 .ensures .0), c .before .before .before .before .before .before .before .before .before .before .before .before .before .before .before .before .before .before .before .before .before .before .loop .inv .1)
+loop-again-19 c = (goes (found (c .before .before .before .before .before .before .before .before .before .before .before .before .before .before .before)) (fetch-acts (found (c .before .before .before .before .before .before .before .before .before .before .before .before .before .before .before)) (c .before .before .before .before .before .before .before .before .before .before .before .before .before .match3 .keys7)) (told saysReached (c .before .before .before .before .before .before .before .before .before .before .before .reach .ensures) (c .before .before .before .before .before .before .before .before .before .reached .given .1 ∙ ap reached.At (c .before .before .before .before .before .before .spot3 .given .1))) (ap (fetchedAs (found (c .before .before .before .before .before .before .before .before .before .before .before .before .before .before .before))) (sym (c .before .before .before .cell .ensures))) refl (c .before .price10 .ensures .0) (c .counted11 .ensures .0), c .before .before .before .before .before .before .before .before .before .before .before .before .before .before .before .before .before .before .before .before .before .before .loop .inv .1)
 
 reach-requires-2 : tie.Need-reach-requires-2 Inv-loop μ-loop
 reach-requires-2 c κs = search needs
@@ -622,20 +616,17 @@ mul-frame-4 c = search needs
 array-copy-out-frame-4 : tie.Need-array-copy-out-frame-4 Inv-loop μ-loop
 array-copy-out-frame-4 c = search needs
 
-sub-locals : tie.Need-sub-locals Inv-loop μ-loop
-sub-locals c = omega (arith, local-room (widthOf (c .before .before .before .before .before .before .before .before .before .before .before .before .before .fetched .given .0 .0)) (c .before .before .before .before .before .before .before .before .before .before .before .before .before .before .before .before .before .before .before .loop .cells) (told saysReached (c .before .before .before .before .before .before .before .before .reach2 .ensures) (c .before .before .before .before .before .before .reached2 .given .1 ∙ ap reached.At (c .before .before .before .spot5 .given .1))))
+sub-with-local : tie.Need-sub-with-local Inv-loop μ-loop
+sub-with-local c = omega (arith, local-room (widthOf (c .before .before .before .before .before .before .before .before .before .before .before .before .fetched .given .0 .0)) (c .before .before .before .before .before .before .before .before .before .before .before .before .before .before .before .before .before .before .loop .cells) (told saysReached (c .before .before .before .before .before .before .before .reach2 .ensures) (c .before .before .before .before .before .reached2 .given .1 ∙ ap reached.At (c .before .before .spot5 .given .1))))
 
-mul-locals : tie.Need-mul-locals Inv-loop μ-loop
-mul-locals c = omega (arith, local-room (widthOf (c .before .before .before .before .before .before .before .before .before .before .before .before .before .fetched .given .0 .0)) (c .before .before .before .before .before .before .before .before .before .before .before .before .before .before .before .before .before .before .before .loop .cells) (told saysReached (c .before .before .before .before .before .before .before .before .reach2 .ensures) (c .before .before .before .before .before .before .reached2 .given .1 ∙ ap reached.At (c .before .before .before .spot5 .given .1))))
+mul-with-local : tie.Need-mul-with-local Inv-loop μ-loop
+mul-with-local c = omega (arith, local-room (widthOf (c .before .before .before .before .before .before .before .before .before .before .before .before .fetched .given .0 .0)) (c .before .before .before .before .before .before .before .before .before .before .before .before .before .before .before .before .before .before .loop .cells) (told saysReached (c .before .before .before .before .before .before .before .reach2 .ensures) (c .before .before .before .before .before .reached2 .given .1 ∙ ap reached.At (c .before .before .spot5 .given .1))))
 
-array-read-locals : tie.Need-array-read-locals Inv-loop μ-loop
-array-read-locals c = omega (arith, local-room (widthOf (c .before .before .before .before .before .before .before .before .before .before .before .before .before .fetched .given .0 .0)) (c .before .before .before .before .before .before .before .before .before .before .before .before .before .before .before .before .before .before .before .loop .cells) (told saysReached (c .before .before .before .before .before .before .before .before .reach2 .ensures) (c .before .before .before .before .before .before .reached2 .given .1 ∙ ap reached.At (c .before .before .before .spot5 .given .1))))
+array-read-with-local : tie.Need-array-read-with-local Inv-loop μ-loop
+array-read-with-local c = omega (arith, local-room (widthOf (c .before .before .before .before .before .before .before .before .before .before .before .before .fetched .given .0 .0)) (c .before .before .before .before .before .before .before .before .before .before .before .before .before .before .before .before .before .before .loop .cells) (told saysReached (c .before .before .before .before .before .before .before .reach2 .ensures) (c .before .before .before .before .before .reached2 .given .1 ∙ ap reached.At (c .before .before .spot5 .given .1))))
 
-mul-locals-2 : tie.Need-mul-locals-2 Inv-loop μ-loop
-mul-locals-2 c = omega (arith, local-room (widthOf (c .before .before .before .before .before .before .before .before .before .before .before .before .before .fetched .given .0 .0)) (c .before .before .before .before .before .before .before .before .before .before .before .before .before .before .before .before .before .before .before .loop .cells) (told saysReached (c .before .before .before .before .before .before .before .before .reach2 .ensures) (c .before .before .before .before .before .before .reached2 .given .1 ∙ ap reached.At (c .before .before .before .spot5 .given .1))))
-
-array-write-locals : tie.Need-array-write-locals Inv-loop μ-loop
-array-write-locals c = omega (arith, local-room (widthOf (c .before .before .before .before .before .before .before .before .before .before .before .before .before .fetched .given .0 .0)) (c .before .before .before .before .before .before .before .before .before .before .before .before .before .before .before .before .before .before .before .loop .cells) (told saysReached (c .before .before .before .before .before .before .before .before .reach2 .ensures) (c .before .before .before .before .before .before .reached2 .given .1 ∙ ap reached.At (c .before .before .before .spot5 .given .1))))
+with-local-requires : tie.Need-with-local-requires Inv-loop μ-loop
+with-local-requires c κs = omega (arith, local-room (widthOf (c .before .before .before .before .before .before .before .before .before .before .before .before .fetched .given .0 .0)) (c .before .before .before .before .before .before .before .before .before .before .before .before .before .before .before .before .before .before .loop .cells) (told saysReached (c .before .before .before .before .before .before .before .reach2 .ensures) (c .before .before .before .before .before .reached2 .given .1 ∙ ap reached.At (c .before .before .spot5 .given .1))))
 
 mul-frames-2 : tie.Need-mul-frames-2 Inv-loop μ-loop
 mul-frames-2 c = omega (arith, local-room (widthOf (c .before .before .before .before .before .before .before .before .before .before .before .before .before .fetched .given .0 .0)) (c .before .before .before .before .before .before .before .before .before .before .before .before .before .before .before .before .before .before .before .loop .cells) (told saysReached (c .before .before .before .before .before .before .before .before .reach2 .ensures) (c .before .before .before .before .before .before .reached2 .given .1 ∙ ap reached.At (c .before .before .before .spot5 .given .1))))
@@ -656,7 +647,7 @@ loop-less-22 : tie.Need-loop-less-22 Inv-loop μ-loop
 loop-less-22 c = omega (arith, c .counted13 .ensures .1)
 
 loop-again-22 : tie.Need-loop-again-22 Inv-loop μ-loop
-loop-again-22 c = (goes (found (c .before .before .before .before .before .before .before .before .before .before .before .before .before .before .before)) (store-acts (found (c .before .before .before .before .before .before .before .before .before .before .before .before .before .before .before)) (c .before .before .before .before .before .before .before .before .before .before .before .before .before .match3 .keys8)) (told saysReached (c .before .before .before .before .before .before .before .before .before .before .before .reach2 .ensures) (c .before .before .before .before .before .before .before .before .before .reached2 .given .1 ∙ ap reached.At (c .before .before .before .before .before .before .spot5 .given .1))) refl refl (c .before .price12 .ensures .0) (c .counted13 .ensures .0), c .before .before .before .before .before .before .before .before .before .before .before .before .before .before .before .before .before .before .before .before .before .before .loop .inv .1)
+loop-again-22 c = (goes (found (c .before .before .before .before .before .before .before .before .before .before .before .before .before .before .before)) (store-acts (found (c .before .before .before .before .before .before .before .before .before .before .before .before .before .before .before)) (c .before .before .before .before .before .before .before .before .before .before .before .before .before .match3 .keys8)) (told saysReached (c .before .before .before .before .before .before .before .before .before .before .before .reach2 .ensures) (c .before .before .before .before .before .before .before .before .before .reached2 .given .1 ∙ ap reached.At (c .before .before .before .before .before .before .spot5 .given .1))) (in-frame (found (c .before .before .before .before .before .before .before .before .before .before .before .before .before .before .before)) (widthOf (c .before .before .before .before .before .before .before .before .before .before .before .before .before .before .before .before .fetched .given .0 .0)) (c .before .before .before .before .before .before .spot5 .given .0 .0) (c .before .before .before .with-local .ensures)) refl (c .before .price12 .ensures .0) (c .counted13 .ensures .0), c .before .before .before .before .before .before .before .before .before .before .before .before .before .before .before .before .before .before .before .before .before .before .loop .inv .1)
 
 enum-known-spot-6 : tie.Need-enum-known-spot-6 Inv-loop μ-loop
 enum-known-spot-6 c = search needs
@@ -667,20 +658,17 @@ mul-level-4 c = search needs
 array-copy-out-level-4 : tie.Need-array-copy-out-level-4 Inv-loop μ-loop
 array-copy-out-level-4 c = search needs
 
-sub-held : tie.Need-sub-held Inv-loop μ-loop
-sub-held c = omega (arith, cell-room (widthOf (c .before .before .before .before .before .before .before .before .before .before .before .before .before .fetched .given .0 .0)) (c .before .before .before .before .before .before .before .before .before .before .before .before .before .before .before .before .before .before .before .loop .cells) (told saysReached (c .before .before .before .before .before .before .before .before .reach2 .ensures) (c .before .before .before .before .before .before .reached2 .given .1 ∙ ap reached.At (c .before .before .before .spot6 .given .1))))
+sub-with-cell : tie.Need-sub-with-cell Inv-loop μ-loop
+sub-with-cell c = omega (arith, cell-room (widthOf (c .before .before .before .before .before .before .before .before .before .before .before .before .fetched .given .0 .0)) (c .before .before .before .before .before .before .before .before .before .before .before .before .before .before .before .before .before .before .loop .cells) (told saysReached (c .before .before .before .before .before .before .before .reach2 .ensures) (c .before .before .before .before .before .reached2 .given .1 ∙ ap reached.At (c .before .before .spot6 .given .1))))
 
-mul-held : tie.Need-mul-held Inv-loop μ-loop
-mul-held c = omega (arith, cell-room (widthOf (c .before .before .before .before .before .before .before .before .before .before .before .before .before .fetched .given .0 .0)) (c .before .before .before .before .before .before .before .before .before .before .before .before .before .before .before .before .before .before .before .loop .cells) (told saysReached (c .before .before .before .before .before .before .before .before .reach2 .ensures) (c .before .before .before .before .before .before .reached2 .given .1 ∙ ap reached.At (c .before .before .before .spot6 .given .1))))
+mul-with-cell : tie.Need-mul-with-cell Inv-loop μ-loop
+mul-with-cell c = omega (arith, cell-room (widthOf (c .before .before .before .before .before .before .before .before .before .before .before .before .fetched .given .0 .0)) (c .before .before .before .before .before .before .before .before .before .before .before .before .before .before .before .before .before .before .loop .cells) (told saysReached (c .before .before .before .before .before .before .before .reach2 .ensures) (c .before .before .before .before .before .reached2 .given .1 ∙ ap reached.At (c .before .before .spot6 .given .1))))
 
-array-read-held : tie.Need-array-read-held Inv-loop μ-loop
-array-read-held c = omega (arith, cell-room (widthOf (c .before .before .before .before .before .before .before .before .before .before .before .before .before .fetched .given .0 .0)) (c .before .before .before .before .before .before .before .before .before .before .before .before .before .before .before .before .before .before .before .loop .cells) (told saysReached (c .before .before .before .before .before .before .before .before .reach2 .ensures) (c .before .before .before .before .before .before .reached2 .given .1 ∙ ap reached.At (c .before .before .before .spot6 .given .1))))
+array-read-with-cell : tie.Need-array-read-with-cell Inv-loop μ-loop
+array-read-with-cell c = omega (arith, cell-room (widthOf (c .before .before .before .before .before .before .before .before .before .before .before .before .fetched .given .0 .0)) (c .before .before .before .before .before .before .before .before .before .before .before .before .before .before .before .before .before .before .loop .cells) (told saysReached (c .before .before .before .before .before .before .before .reach2 .ensures) (c .before .before .before .before .before .reached2 .given .1 ∙ ap reached.At (c .before .before .spot6 .given .1))))
 
-mul-held-2 : tie.Need-mul-held-2 Inv-loop μ-loop
-mul-held-2 c = omega (arith, cell-room (widthOf (c .before .before .before .before .before .before .before .before .before .before .before .before .before .fetched .given .0 .0)) (c .before .before .before .before .before .before .before .before .before .before .before .before .before .before .before .before .before .before .before .loop .cells) (told saysReached (c .before .before .before .before .before .before .before .before .reach2 .ensures) (c .before .before .before .before .before .before .reached2 .given .1 ∙ ap reached.At (c .before .before .before .spot6 .given .1))))
-
-array-write-held : tie.Need-array-write-held Inv-loop μ-loop
-array-write-held c = omega (arith, cell-room (widthOf (c .before .before .before .before .before .before .before .before .before .before .before .before .before .fetched .given .0 .0)) (c .before .before .before .before .before .before .before .before .before .before .before .before .before .before .before .before .before .before .before .loop .cells) (told saysReached (c .before .before .before .before .before .before .before .before .reach2 .ensures) (c .before .before .before .before .before .before .reached2 .given .1 ∙ ap reached.At (c .before .before .before .spot6 .given .1))))
+with-cell-requires : tie.Need-with-cell-requires Inv-loop μ-loop
+with-cell-requires c κs = omega (arith, cell-room (widthOf (c .before .before .before .before .before .before .before .before .before .before .before .before .fetched .given .0 .0)) (c .before .before .before .before .before .before .before .before .before .before .before .before .before .before .before .before .before .before .loop .cells) (told saysReached (c .before .before .before .before .before .before .before .reach2 .ensures) (c .before .before .before .before .before .reached2 .given .1 ∙ ap reached.At (c .before .before .spot6 .given .1))))
 
 mul-levels-2 : tie.Need-mul-levels-2 Inv-loop μ-loop
 mul-levels-2 c = omega (arith, cell-room (widthOf (c .before .before .before .before .before .before .before .before .before .before .before .before .before .fetched .given .0 .0)) (c .before .before .before .before .before .before .before .before .before .before .before .before .before .before .before .before .before .before .before .loop .cells) (told saysReached (c .before .before .before .before .before .before .before .before .reach2 .ensures) (c .before .before .before .before .before .before .reached2 .given .1 ∙ ap reached.At (c .before .before .before .spot6 .given .1))))
@@ -701,7 +689,7 @@ loop-less-23 : tie.Need-loop-less-23 Inv-loop μ-loop
 loop-less-23 c = omega (arith, c .counted14 .ensures .1)
 
 loop-again-23 : tie.Need-loop-again-23 Inv-loop μ-loop
-loop-again-23 c = (goes (found (c .before .before .before .before .before .before .before .before .before .before .before .before .before .before .before)) (store-acts (found (c .before .before .before .before .before .before .before .before .before .before .before .before .before .before .before)) (c .before .before .before .before .before .before .before .before .before .before .before .before .before .match3 .keys8)) (told saysReached (c .before .before .before .before .before .before .before .before .before .before .before .reach2 .ensures) (c .before .before .before .before .before .before .before .before .before .reached2 .given .1 ∙ ap reached.At (c .before .before .before .before .before .before .spot6 .given .1))) refl refl (c .before .price13 .ensures .0) (c .counted14 .ensures .0), c .before .before .before .before .before .before .before .before .before .before .before .before .before .before .before .before .before .before .before .before .before .before .loop .inv .1)
+loop-again-23 c = (goes (found (c .before .before .before .before .before .before .before .before .before .before .before .before .before .before .before)) (store-acts (found (c .before .before .before .before .before .before .before .before .before .before .before .before .before .before .before)) (c .before .before .before .before .before .before .before .before .before .before .before .before .before .match3 .keys8)) (told saysReached (c .before .before .before .before .before .before .before .before .before .before .before .reach2 .ensures) (c .before .before .before .before .before .before .before .before .before .reached2 .given .1 ∙ ap reached.At (c .before .before .before .before .before .before .spot6 .given .1))) (in-level (found (c .before .before .before .before .before .before .before .before .before .before .before .before .before .before .before)) (widthOf (c .before .before .before .before .before .before .before .before .before .before .before .before .before .before .before .before .fetched .given .0 .0)) (c .before .before .before .before .before .before .spot6 .given .0 .0) (c .before .before .before .with-cell .ensures)) refl (c .before .price13 .ensures .0) (c .counted14 .ensures .0), c .before .before .before .before .before .before .before .before .before .before .before .before .before .before .before .before .before .before .before .before .before .before .loop .inv .1)
 
 can-call-requires : tie.Need-can-call-requires Inv-loop μ-loop
 can-call-requires c κs = search needs
@@ -1003,7 +991,7 @@ rounds-spec =
     add-frames
     mul-frames
     array-set-from-frames
-    sub-t111
+    sub-t107
     wrapping-add-u32-requires
     add-levels
     mul-levels
@@ -1063,10 +1051,9 @@ rounds-spec =
     enum-known-spot-2
     mul-frame-3
     array-copy-out-frame-3
-    mul-cells-7
-    array-read-cells-3
+    local-requires
     sub-cells-4
-    mul-cells-8
+    mul-cells-7
     array-write-cells-5
     price-requires-9
     counted-requires-10
@@ -1075,10 +1062,9 @@ rounds-spec =
     enum-known-spot-3
     mul-level-3
     array-copy-out-level-3
-    mul-cells-9
-    array-read-cells-4
+    cell-requires
     sub-cells-5
-    mul-cells-10
+    mul-cells-8
     array-write-cells-6
     price-requires-10
     counted-requires-11
@@ -1103,11 +1089,10 @@ rounds-spec =
     enum-known-spot-5
     mul-frame-4
     array-copy-out-frame-4
-    sub-locals
-    mul-locals
-    array-read-locals
-    mul-locals-2
-    array-write-locals
+    sub-with-local
+    mul-with-local
+    array-read-with-local
+    with-local-requires
     mul-frames-2
     array-set-from-frames-2
     sub-regs-7
@@ -1118,11 +1103,10 @@ rounds-spec =
     enum-known-spot-6
     mul-level-4
     array-copy-out-level-4
-    sub-held
-    mul-held
-    array-read-held
-    mul-held-2
-    array-write-held
+    sub-with-cell
+    mul-with-cell
+    array-read-with-cell
+    with-cell-requires
     mul-levels-2
     array-set-from-levels-2
     sub-regs-8
