@@ -52,7 +52,7 @@ static uint64_t untouched_by(function *this) {
 }
 
 /* Calls a function with eight words on a stack painted with a byte, and gives the bytes that it took, and its answer beside. The
-   stack is four times the promised one, so that a function which takes too much is still seen to. */
+   stack is four times the promised one, so that a function which takes up to four times as much is still seen to. */
 uint64_t painted_call(function *this, const uint64_t *eight_words, uint8_t painted_with, uint64_t *its_answer) {
     words = eight_words;
     paint = painted_with * UINT64_C(0x0101010101010101);

@@ -10,7 +10,7 @@ use crate::state_bytes::{spell, spell_result, RESULT_BYTES, STATE_BYTES};
 use crate::tally::Tally;
 
 /// A buffer that takes the longest text.
-const OUT: usize = 1024;
+pub const OUT: usize = 1024;
 /// The boundary's number for a buffer that does not suit.
 const REFUSED: u64 = 2;
 

@@ -1,7 +1,8 @@
 //! A second opinion on the machine.
 //!
 //! `model` is written from the rules alone; `boundary` is the door to the proved libraries and to the plain C
-//! interpreter; the rest makes images and states, compares what the two machines do, and measures their speed and their stack.
+//! interpreter; the rest makes images and states, compares what the two machines do, and measures their speed and
+//! their stack.
 
 pub mod arguments;
 pub mod assembler;

@@ -4,7 +4,7 @@ use std::convert::Infallible;
 
 use crate::boundary::{painted_bench, painted_read_image, painted_run_state, Painted};
 use crate::chains::{Lengths, Runner};
-use crate::comparison::{lent, Room};
+use crate::comparison::{lent, Room, OUT};
 use crate::model::run::run;
 use crate::model::state::{Machine, MEMORY};
 use crate::state_bytes::{READ_RESULT_BYTES, RESULT_BYTES, STATE_BYTES};
@@ -40,7 +40,7 @@ impl Depths {
     /// Runs an image, and reads it; where it is read, its state is run too.
     pub fn image(&mut self, file: &[u8], memory_length: usize, room: Room) {
         let mut memory = vec![0; memory_length];
-        let text = self.run_image(file, &mut memory, Room::Plenty.bytes(0));
+        let text = self.run_image(file, &mut memory, OUT);
         if !matches!(room, Room::Plenty) {
             self.run_image(file, &mut memory, room.bytes(text as usize));
         }

@@ -40,6 +40,7 @@ pub fn take(state: &[u8]) -> Taken
     let p = reading::pointer_at(state, places::STATE_P);
     let counter = reading::cell_at(state, places::STATE_COUNTER);
     let flag = reading::cell_at(state, places::STATE_FLAG);
+    // the linked stacks last, as their frames are (docs/DECISIONS.md)
     let links = reading::links_at(state, places::STATE_LINKS);
     let machine = Machine {
         cells,

@@ -77,6 +77,7 @@ fn frames_at(state: &[u8], from: usize) -> [Frame; Links::FRAMES]
     requires { ⌜ from + array framesCount layout.frame .width ≤ length (now state) ⌝ }
     ensures { λ r. ⌜ PartStands (array framesCount layout.frame) (now (state .entry)) from r ⌝ }
 {
+    // not those of fresh links, which would stand on the stack beside these
     let blank = Frame {
         locals: [0u32; Frame::LOCALS],
         r: 0,
@@ -120,7 +121,7 @@ pub(crate) fn links_at(state: &[u8], at: usize) -> Links
     let s = pointer_at(state, at + places::LINKS_S);
     let levels = levels_at(state, at + places::LINKS_LEVELS);
     let e = pointer_at(state, at + places::LINKS_E);
-    // the frames last: read earlier, the compiler would keep them twice
+    // the frames last: read earlier, they would stand twice on the stack
     let frames = frames_at(state, at + places::LINKS_FRAMES);
     Links {
         returns,

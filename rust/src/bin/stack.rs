@@ -1,4 +1,5 @@
-//! The stack table: the most that each exported function was seen to take on a painted stack, beside the frames of its library.
+//! The stack table: the most that each exported function was seen to take on a painted stack, beside the frames of
+//! its library.
 
 use std::fs;
 use std::path::Path;
@@ -44,10 +45,10 @@ struct Row {
 }
 
 fn plan() -> Result<Plan, ExitCode> {
-    let mut arguments = Arguments::of_program()?;
     if STAND_IN {
         return Err(refuse("the proved libraries are not linked: there is nothing to measure"));
     }
+    let mut arguments = Arguments::of_program()?;
     let short = arguments.flag("--short");
     let seed = arguments.number("--seed", 1)?;
     let images = arguments.number("--images", if short { 30_000 } else { 300_000 })?;
@@ -166,8 +167,8 @@ fn print_table(rows: &[Row]) {
     println!("{:<26}{:>13}{:>11}", "bytes of stack", "deepest seen", "frames");
     for row in rows {
         println!("  {:<24}{:>13}{:>11}", row.function, grouped(row.depth.deepest), grouped(sum(&row.frames)));
-        for frame in row.frames.iter().filter(|_| row.frames.len() > 1) {
-            println!("    {:<35}{:>11}", frame.function, grouped(frame.bytes));
+        if row.frames.len() > 1 {
+            row.frames.iter().for_each(|frame| println!("    {:<35}{:>11}", frame.function, grouped(frame.bytes)));
         }
     }
 }
@@ -177,6 +178,7 @@ fn faults(row: &Row) -> Vec<String> {
     let Row { function, depth, frames } = row;
     let explained = sum(frames) + RETURN_ADDRESS * frames.len() as u64 + BELOW_THE_POINTER;
     let took = format!("{function} took {} bytes", grouped(depth.deepest));
+    let promised = grouped(promise());
     let mut faults = Vec::new();
     if depth.calls < LEAST_CALLS {
         faults.push(format!("{function} was called {} times, and {LEAST_CALLS} are the least", depth.calls));
@@ -185,7 +187,10 @@ fn faults(row: &Row) -> Vec<String> {
         faults.push(format!("{took}: nothing was measured"));
     }
     if depth.deepest > promise() {
-        faults.push(format!("{took}, and glidecotton.h promises {}", grouped(promise())));
+        faults.push(format!("{took}, and glidecotton.h promises {promised}"));
+    }
+    if explained > promise() {
+        faults.push(format!("the frames of {function} come to {}, and {promised} are promised", grouped(explained)));
     }
     if depth.deepest > explained {
         faults.push(format!("{took}, and its frames explain {}", grouped(explained)));
