@@ -1,8 +1,9 @@
-/* The proved machine for hosts: what three libraries export, one function each. rt staticlib NAME makes libNAME.a in
-   target/staticlib/ for x86-64, and hosts/c/build makes all three in this machine's code.
+/* The proved machine for hosts: what four libraries export, one function each. rt staticlib NAME makes libNAME.a in
+   target/staticlib/ for x86-64, and hosts/c/build makes all four in this machine's code.
       libglidecotton.a  glidecotton_bench
       libreader.a       glidecotton_read_image
       libhost.a         glidecotton_run_state
+      libtasks.a        glidecotton_run_tasks
 
    Every function takes every buffer of every length and keeps no pointer. A caller hands each buffer with its own length, and no
    two that overlap. Numbers in buffers are big endian. The libraries need memcpy and memset, and nothing else. */
@@ -19,11 +20,17 @@ enum {
     GLIDECOTTON_TEXT = 744,            /* bytes that always suffice for a text */
     GLIDECOTTON_BUDGET = 1000000,      /* the greatest budget of steps */
     GLIDECOTTON_STATE = 3528,          /* bytes of a state */
+    GLIDECOTTON_TASK = 3536,           /* bytes of a task: its state, and the number that it keeps */
+    GLIDECOTTON_TASKS = 14144,         /* bytes of tasks 0 to 3, one after another */
+    GLIDECOTTON_QUANTUM = 1000,        /* the greatest quantum of steps; the least is 1 */
+    GLIDECOTTON_SHARED = 16384,        /* bytes of memory that all tasks share, from address 0; their own parts follow in order */
+    GLIDECOTTON_PART = 4096,           /* bytes of a task's own part */
     GLIDECOTTON_RESULT = 24,           /* bytes of a run's result */
     GLIDECOTTON_READ_RESULT = 8,       /* bytes of the reader's result */
-    GLIDECOTTON_STACK = 9216           /* bytes of stack that are enough for a call; rust/stack measures it. On Arm a run takes 8,256
-                                          at the most, a bench 6,800 and a read 3,632; before request P7 it was 13,760, 6,896 and
-                                          3,632. Compiled for x86-64 their frames are 8,392, 6,792 and 3,784 */
+    GLIDECOTTON_STACK = 9216,          /* bytes of stack that are enough for a call, but of tasks; rust/stack measures it. On Arm a run
+                                          takes 8,256 at the most, a bench 6,800 and a read 3,632; before request P7 it was 13,760,
+                                          6,896 and 3,632. Compiled for x86-64 their frames are 8,392, 6,792 and 3,784 */
+    GLIDECOTTON_TASKS_STACK = 65536    /* and for a call of glidecotton_run_tasks, which holds four machines; rust/stack measures it */
 };
 
 /* Where a state has what. All zeros are a fresh machine. A cell, an address, the counter and the flag take 4 bytes, a pointer or
@@ -41,10 +48,17 @@ enum {
     GLIDECOTTON_FLAG = 3524      /* extend flag, 0 or 1 */
 };
 
+/* Where a task has what besides its state, and what stands there. A fresh task is all zeros and then GLIDECOTTON_READY; one that is
+   all zeros keeps 0, as if it had finished, and never has a turn. */
+enum {
+    GLIDECOTTON_KEPT = 3528,     /* 8 bytes: GLIDECOTTON_READY, or the answer with which the task left: 0, 3 to 13 or 17 */
+    GLIDECOTTON_READY = 1
+};
+
 /* Where a run's result has what, 8 bytes each. */
 enum {
-    GLIDECOTTON_ANSWER = 0,      /* the answer of document 01: 0 to 13 */
-    GLIDECOTTON_STEPS = 8,       /* instructions that this run completed */
+    GLIDECOTTON_ANSWER = 0,      /* the answer of document 01: 0 to 13; of a run of tasks 0, 1 or 2 */
+    GLIDECOTTON_STEPS = 8,       /* instructions that this run completed, those of all tasks together */
     GLIDECOTTON_CYCLES = 16      /* their clock cycles */
 };
 
@@ -73,5 +87,17 @@ uint64_t glidecotton_read_image(const uint8_t *image, size_t image_len, uint8_t 
    Returns 2 with all untouched where state_len is not GLIDECOTTON_STATE or result_len not GLIDECOTTON_RESULT. */
 uint64_t glidecotton_run_state(uint8_t *state, size_t state_len, uint8_t *memory, size_t memory_len, uint64_t budget,
                                uint8_t *result, size_t result_len);
+
+/* Runs four tasks on one memory, in turns of at most quantum steps and for at most budget steps together, and hands them back in the
+   same bytes, ready for the next run. Task 0 has the first turn, or the next task that is ready.
+   Returns 0 with the result written. Answer 1 in it says that the budget is spent, and else 0 that no task is ready. Answer 2 (a memory
+   of another length, a budget above GLIDECOTTON_BUDGET, a quantum that is not 1 to GLIDECOTTON_QUANTUM, a task whose state is not well
+   formed, whether it is ready or not, or that keeps another number than it can) comes with no steps and no cycles, and with tasks and
+   memory untouched.
+   Returns 2 with all untouched where tasks_len is not GLIDECOTTON_TASKS or result_len not GLIDECOTTON_RESULT.
+   A budget should be longer than the quantum: each run starts with task 0 again, so else a task 0 that neither pauses nor leaves is the
+   only one that moves. */
+uint64_t glidecotton_run_tasks(uint8_t *tasks, size_t tasks_len, uint8_t *memory, size_t memory_len, uint64_t quantum,
+                               uint64_t budget, uint8_t *result, size_t result_len);
 
 #endif

@@ -10,15 +10,14 @@ use std::process::Command;
 const PLAIN: &str = "c/plain.c";
 const PAINTED: &str = "c/painted.c";
 const HEADERS: &str = "../include";
-const PROVED: [&str; 3] =
-    ["../target/staticlib/libglidecotton.a", "../target/staticlib/libhost.a", "../target/staticlib/libreader.a"];
+const PROVED: [&str; 4] = ["glidecotton", "host", "reader", "tasks"];
 
 fn main() {
     let out = PathBuf::from(env::var("OUT_DIR").expect("cargo sets OUT_DIR"));
     println!("cargo:rerun-if-changed=c");
     println!("cargo:rerun-if-changed={HEADERS}");
-    for library in PROVED {
-        println!("cargo:rerun-if-changed={library}");
+    for name in PROVED {
+        println!("cargo:rerun-if-changed={}", proved(name).display());
     }
     println!("cargo:rerun-if-env-changed=GLIDECOTTON_STAND_IN");
     println!("cargo:rustc-check-cfg=cfg(stand_in)");
@@ -31,23 +30,31 @@ fn main() {
     // Every name is bound before the first call, or the linker's own work would be seen on the painted stack.
     println!("cargo:rustc-link-arg-bins=-Wl,-z,now");
 
-    if env::var_os("GLIDECOTTON_STAND_IN").is_some() || !PROVED.iter().all(|library| Path::new(library).exists()) {
+    if env::var_os("GLIDECOTTON_STAND_IN").is_some() || !PROVED.iter().all(|name| proved(name).exists()) {
         archive(
             &out,
             "glidecotton",
             PLAIN,
-            &["-Dplain_bench=glidecotton_bench", "-Dplain_run_state=glidecotton_run_state"],
+            &[
+                "-Dplain_bench=glidecotton_bench",
+                "-Dplain_run_state=glidecotton_run_state",
+                "-Dplain_run_tasks=glidecotton_run_tasks",
+            ],
         );
+        println!("cargo:rustc-link-lib=static=glidecotton");
         println!("cargo:rustc-cfg=stand_in");
     } else {
-        for library in PROVED.map(Path::new) {
-            let name = library.file_name().expect("a library has a name");
-            std::fs::copy(library, out.join(name)).expect("the proved library can be read");
+        for name in PROVED {
+            let copy = out.join(format!("lib{name}.a"));
+            std::fs::copy(proved(name), copy).expect("the proved library can be read");
+            println!("cargo:rustc-link-lib=static={name}");
         }
-        println!("cargo:rustc-link-lib=static=host");
-        println!("cargo:rustc-link-lib=static=reader");
     }
-    println!("cargo:rustc-link-lib=static=glidecotton");
+}
+
+/// Where the toolchain puts a proved library.
+fn proved(name: &str) -> PathBuf {
+    PathBuf::from(format!("../target/staticlib/lib{name}.a"))
 }
 
 /// Compiles a C file with some more options into a static library.

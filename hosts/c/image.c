@@ -2,11 +2,7 @@
 
 #include <stdio.h>
 
-uint64_t number_at(const uint8_t *bytes, size_t width) {
-    uint64_t value = 0;
-    for (size_t i = 0; i < width; i++) value = value << 8 | bytes[i];
-    return value;
-}
+#include "buffers.h"
 
 int read_file(const char *name, struct file *file) {
     FILE *from = fopen(name, "rb");

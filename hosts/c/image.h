@@ -16,9 +16,6 @@ struct image {
     uint64_t budget;
 };
 
-/* The number that so many bytes spell, the highest first. */
-uint64_t number_at(const uint8_t *bytes, size_t width);
-
 /* Whether the file could be read. Of a file that is longer than every good image one byte more is kept, so that it is refused. */
 int read_file(const char *name, struct file *file);
 

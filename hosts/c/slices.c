@@ -7,15 +7,9 @@
 #include <stdio.h>
 #include <stdlib.h>
 
+#include "buffers.h"
 #include "glidecotton.h"
 #include "image.h"
-
-struct counted {
-    uint64_t answer, steps, cycles;
-};
-
-static uint64_t pointer(const uint8_t *state, size_t at) { return number_at(state + at, 8); }
-static uint64_t cell(const uint8_t *state, size_t at) { return number_at(state + at, 4); }
 
 static void show_line(struct counted all, const uint8_t *state) {
     printf("%" PRIu64 " %" PRIu64 " %" PRIu64 " %" PRIu64 " ", all.answer, all.steps, all.cycles, cell(state, GLIDECOTTON_COUNTER));
@@ -32,7 +26,7 @@ static void show_cells(const uint8_t *state) {
 static struct counted run_slice(uint8_t *state, uint8_t *memory, uint64_t steps) {
     uint8_t result[GLIDECOTTON_RESULT];
     if (glidecotton_run_state(state, GLIDECOTTON_STATE, memory, GLIDECOTTON_MEMORY, steps, result, sizeof result) != 0) abort();
-    return (struct counted){pointer(result, GLIDECOTTON_ANSWER), pointer(result, GLIDECOTTON_STEPS), pointer(result, GLIDECOTTON_CYCLES)};
+    return counted_in(result);
 }
 
 /* Slices until the machine stops by itself or the image's own budget is spent. */
@@ -40,8 +34,7 @@ static void run_all(struct image *image, uint64_t slice) {
     struct counted all = {0, 0, 0};
     for (;;) {
         uint64_t left = image->budget - all.steps;
-        struct counted now = run_slice(image->state, image->memory, slice < left ? slice : left);
-        all = (struct counted){now.answer, all.steps + now.steps, all.cycles + now.cycles};
+        all = after(all, run_slice(image->state, image->memory, slice < left ? slice : left));
         show_line(all, image->state);
         if (all.answer != 1 || all.steps == image->budget) break;
     }

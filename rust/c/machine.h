@@ -9,6 +9,8 @@
 
 enum {
     MEMORY = 32768,
+    SHARED = 16384, /* bytes that every task may touch; the parts follow */
+    PART = 4096,    /* bytes of one task's own part */
     CELLS = 64,
     FRAMES = 32,
     CATCHES = 8,
@@ -21,7 +23,7 @@ enum {
     TEXT_BYTES = 768
 };
 
-enum { EXIT_CODE = 0x3D, FIRST_LOCAL = 0x10000, FIRST_CATCH_CELL = 0x10040, LISTED_END = 0x10060 };
+enum { EXIT_CODE = 0x3D, PAUSE_CODE = 0x3E, FIRST_LOCAL = 0x10000, FIRST_CATCH_CELL = 0x10040, LISTED_END = 0x10060 };
 
 /* The copies are 64 bits wide because a host may leave anything in levels above the pointers. */
 struct frame {
@@ -54,11 +56,11 @@ struct outcome {
     uint64_t answer, steps, cycles;
 };
 
-static const uint8_t CYCLES[62] = {
+static const uint8_t CYCLES[63] = {
     1, 1, 1, 1, 1, 1, 1, 1, 1, 1, 1, 2, 1, 3, 1,  1, /* 00 */
     1, 1, 1, 1, 1, 1, 1, 1, 1, 1, 1, 1, 1, 1, 1,  1, /* 10 */
     1, 1, 1, 1, 1, 1, 1, 1, 1, 5, 5, 42, 41, 2, 2, 2, /* 20 */
-    2, 2, 2, 2, 2, 2, 2, 2, 2, 2, 1, 1, 1, 2,         /* 30 */
+    2, 2, 2, 2, 2, 2, 2, 2, 2, 2, 1, 1, 1, 2, 1,      /* 30 */
 };
 
 static uint32_t get16(const uint8_t *b) { return (uint32_t)b[0] << 8 | b[1]; }

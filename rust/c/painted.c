@@ -11,12 +11,13 @@
 
 #include "glidecotton.h"
 
-enum { STACK = 4 * GLIDECOTTON_STACK, STACK_WORDS = STACK / 8 };
+enum { STACK = 2 * GLIDECOTTON_TASKS_STACK, STACK_WORDS = STACK / 8 };
 
 /* A pointer and a number are handed over alike, each as a word, and a function does not look at words that it does not take. */
 typedef uint64_t function(uint64_t, uint64_t, uint64_t, uint64_t, uint64_t, uint64_t, uint64_t, uint64_t);
 
 const uint64_t promised_stack = GLIDECOTTON_STACK;
+const uint64_t promised_tasks_stack = GLIDECOTTON_TASKS_STACK;
 
 static _Alignas(16) uint64_t stack[STACK_WORDS];
 static ucontext_t here, there;
@@ -52,7 +53,7 @@ static uint64_t untouched_by(function *this) {
 }
 
 /* Calls a function with eight words on a stack painted with a byte, and gives the bytes that it took, and its answer beside. The
-   stack is four times the promised one, so that a function which takes up to four times as much is still seen to. */
+   stack is twice the greater one of those promised, so that a function which takes up to twice as much is still seen to. */
 uint64_t painted_call(function *this, const uint64_t *eight_words, uint8_t painted_with, uint64_t *its_answer) {
     words = eight_words;
     paint = painted_with * UINT64_C(0x0101010101010101);

@@ -3,6 +3,7 @@
 
 #include "machine.h"
 #include "run.h"
+#include "tasks.h"
 
 /* A section is its count and then that many items; 64 bits, so that no count can wrap. */
 static const uint8_t *section(const uint8_t *image, size_t length, size_t *at, uint64_t item, uint64_t *count) {
@@ -138,6 +139,12 @@ static void write_state(const struct machine *m, uint8_t *at) {
     give(&at, 4, m->flag);
 }
 
+static void write_result(struct outcome o, uint8_t *at) {
+    give(&at, 8, o.answer);
+    give(&at, 8, o.steps);
+    give(&at, 8, o.cycles);
+}
+
 /* Runs a state handed in as bytes; 2 with nothing touched where state or result has another length. */
 uint64_t plain_run_state(uint8_t *state, size_t state_len, uint8_t *memory, size_t memory_len, uint64_t budget,
                          uint8_t *result, size_t result_len) {
@@ -149,8 +156,36 @@ uint64_t plain_run_state(uint8_t *state, size_t state_len, uint8_t *memory, size
         o = run(&m, memory, budget);
         write_state(&m, state);
     }
-    give(&result, 8, o.answer);
-    give(&result, 8, o.steps);
-    give(&result, 8, o.cycles);
+    write_result(o, result);
+    return 0;
+}
+
+/* A task is its state and then its kept number; tells whether it is good. */
+static int read_task(struct task *task, const uint8_t *at) {
+    const uint8_t *kept = at + STATE_BYTES;
+    read_state(&task->machine, at);
+    task->kept = take(&kept, 8);
+    return good_task(task);
+}
+
+static void write_task(const struct task *task, uint8_t *at) {
+    uint8_t *kept = at + STATE_BYTES;
+    write_state(&task->machine, at);
+    give(&kept, 8, task->kept);
+}
+
+/* Runs four tasks handed in as bytes; 2 with nothing touched where tasks or result have another length. */
+uint64_t plain_run_tasks(uint8_t *bytes, size_t bytes_len, uint8_t *memory, size_t memory_len, uint64_t quantum,
+                         uint64_t budget, uint8_t *result, size_t result_len) {
+    struct task tasks[TASKS];
+    struct outcome o = {2, 0, 0};
+    if (bytes_len != TASKS * TASK_BYTES || result_len != RESULT_BYTES) return 2;
+    int good = memory_len == MEMORY && budget <= MAX_BUDGET && quantum >= 1 && quantum <= MAX_QUANTUM;
+    for (int t = 0; t < TASKS; t++) good &= read_task(&tasks[t], bytes + t * TASK_BYTES);
+    if (good) {
+        o = run_tasks(tasks, memory, quantum, budget);
+        for (int t = 0; t < TASKS; t++) write_task(&tasks[t], bytes + t * TASK_BYTES);
+    }
+    write_result(o, result);
     return 0;
 }

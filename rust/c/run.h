@@ -1,12 +1,21 @@
-/* The run: one switch over the codes, with the registers in local variables. */
+/* The run: one switch over the codes, with the registers in local variables. It is compiled twice, for a machine alone and for one
+   of four, so that a run alone makes no test for other tasks. */
 
 #ifndef RUN_H
 #define RUN_H
 
 #include "machine.h"
 
+/* The bytes that a task may touch: those before an address, and the part that begins at another. */
+struct reach {
+    uint32_t before, own;
+};
+
 #define REFUSE(n) do { answer = (n); goto stop; } while (0)
-#define BYTES(n) do { if (pc > MEMORY - (n)) REFUSE(3); next = pc + (n); } while (0)
+#define REACHES(a, n) \
+    (alone ? (a) <= MEMORY - (n) : (a) <= reach.before - (n) || (a) - reach.own <= PART - (n))
+#define WITHIN(a, n, outside) do { if (!REACHES(a, n)) REFUSE((a) <= MEMORY - (n) ? 17 : (outside)); } while (0)
+#define BYTES(n) do { WITHIN(pc, n, 3); next = pc + (n); } while (0)
 #define TAKES(n) do { if (p < (n)) REFUSE(5); } while (0)
 #define ROOM() do { if (p >= CELLS) REFUSE(8); } while (0)
 #define CALL(target) do { \
@@ -24,15 +33,18 @@
 #define UNARY(value) do { TAKES(1); TOP = (value); } while (0)
 #define TRUTH(condition) ((condition) ? 0xFFFFFFFFu : 0u)
 
-static struct outcome run(struct machine *m, uint8_t *mem, uint64_t budget) {
+/* Carries out instructions and counts them, until so many are counted; of a task among four also until a PAUSE. Answers 1 where the
+   machine can go on. */
+static inline __attribute__((always_inline)) uint64_t instructions(struct machine *m, uint8_t *mem, int alone, struct reach reach,
+                                                                   struct outcome *counts, uint64_t budget) {
     uint32_t *param = m->param;
     uint32_t pc = m->pc, flag = m->flag, next;
     uint64_t p = m->p, r = m->r, s = m->s, e = m->e;
-    uint64_t steps = 0, cycles = 0, answer;
+    uint64_t steps = counts->steps, cycles = counts->cycles, answer;
 
     for (;;) {
         if (steps == budget) REFUSE(1);
-        if (pc >= MEMORY) REFUSE(3);
+        WITHIN(pc, 1, 3);
         uint32_t code = mem[pc];
         if (code >= 0x80) {
             BYTES(2);
@@ -184,7 +196,8 @@ static struct outcome run(struct machine *m, uint8_t *mem, uint64_t budget) {
         case 0x2D: {
             TAKES(1);
             uint32_t a = TOP;
-            if (a <= MEMORY - 4) TOP = get32(mem + a);
+            if (REACHES(a, 4)) TOP = get32(mem + a);
+            else if (a <= MEMORY - 4) REFUSE(17);
             else if (a < FIRST_LOCAL || a >= LISTED_END || a % 4 != 0) REFUSE(12);
             else if (a < FIRST_CATCH_CELL) TOP = m->frames[s].locals[(a - FIRST_LOCAL) / 4];
             else TOP = m->levels[e].cells[(a - FIRST_CATCH_CELL) / 4];
@@ -193,25 +206,26 @@ static struct outcome run(struct machine *m, uint8_t *mem, uint64_t budget) {
         case 0x2E: {
             TAKES(2);
             uint32_t a = TOP, n = SECOND;
-            if (a <= MEMORY - 4) put32(mem + a, n);
+            if (REACHES(a, 4)) put32(mem + a, n);
+            else if (a <= MEMORY - 4) REFUSE(17);
             else if (a < FIRST_LOCAL || a >= LISTED_END || a % 4 != 0) REFUSE(12);
             else if (a < FIRST_CATCH_CELL) m->frames[s].locals[(a - FIRST_LOCAL) / 4] = n;
             else m->levels[e].cells[(a - FIRST_CATCH_CELL) / 4] = n;
             p -= 2;
             break;
         }
-        case 0x2F: TAKES(1); if (TOP > MEMORY - 2) REFUSE(12); TOP = get16(mem + TOP); break;
+        case 0x2F: TAKES(1); WITHIN(TOP, 2, 12); TOP = get16(mem + TOP); break;
         case 0x30: {
             TAKES(2);
             uint32_t a = TOP, n = SECOND;
-            if (a > MEMORY - 2) REFUSE(12);
+            WITHIN(a, 2, 12);
             mem[a] = (uint8_t)(n >> 8);
             mem[a + 1] = (uint8_t)n;
             p -= 2;
             break;
         }
-        case 0x31: TAKES(1); if (TOP >= MEMORY) REFUSE(12); TOP = mem[TOP]; break;
-        case 0x32: TAKES(2); if (TOP >= MEMORY) REFUSE(12); mem[TOP] = (uint8_t)SECOND; p -= 2; break;
+        case 0x31: TAKES(1); WITHIN(TOP, 1, 12); TOP = mem[TOP]; break;
+        case 0x32: TAKES(2); WITHIN(TOP, 1, 12); mem[TOP] = (uint8_t)SECOND; p -= 2; break;
         case 0x33: TAKES(1); if (TOP != 0) { ROOM(); param[p] = TOP; p++; } break;
         case 0x34: BYTES(2); ROOM(); param[p++] = mem[pc + 1]; break;
         case 0x35: BYTES(3); ROOM(); param[p++] = get16(mem + pc + 1); break;
@@ -237,6 +251,12 @@ static struct outcome run(struct machine *m, uint8_t *mem, uint64_t budget) {
             s--;
             if (e > 0 && s <= m->levels[e].copy_s) e--;
             break;
+        case PAUSE_CODE:
+            if (alone) break;
+            cycles++;
+            steps++;
+            pc = next;
+            REFUSE(1);
         default: REFUSE(4);
         }
         cycles += CYCLES[code];
@@ -251,7 +271,15 @@ stop:
     m->r = r;
     m->s = s;
     m->e = e;
-    return (struct outcome){answer, steps, cycles};
+    counts->steps = steps;
+    counts->cycles = cycles;
+    return answer;
+}
+
+static struct outcome run(struct machine *m, uint8_t *mem, uint64_t budget) {
+    struct outcome o = {0, 0, 0};
+    o.answer = instructions(m, mem, 1, (struct reach){0, 0}, &o, budget);
+    return o;
 }
 
 #endif

@@ -10,15 +10,19 @@ pub const STAND_IN: bool = cfg!(stand_in);
 
 type Bench = unsafe extern "C" fn(*const u8, usize, *mut u8, usize, *mut u8, usize) -> u64;
 type RunState = unsafe extern "C" fn(*mut u8, usize, *mut u8, usize, u64, *mut u8, usize) -> u64;
+type RunTasks = unsafe extern "C" fn(*mut u8, usize, *mut u8, usize, u64, u64, *mut u8, usize) -> u64;
 
 #[rustfmt::skip]
 extern "C" {
     fn glidecotton_bench(image: *const u8, image_len: usize, memory: *mut u8, memory_len: usize, out: *mut u8, out_len: usize) -> u64;
     fn glidecotton_run_state(state: *mut u8, state_len: usize, memory: *mut u8, memory_len: usize, budget: u64, result: *mut u8, result_len: usize) -> u64;
+    fn glidecotton_run_tasks(tasks: *mut u8, tasks_len: usize, memory: *mut u8, memory_len: usize, quantum: u64, budget: u64, result: *mut u8, result_len: usize) -> u64;
     fn plain_bench(image: *const u8, image_len: usize, memory: *mut u8, memory_len: usize, out: *mut u8, out_len: usize) -> u64;
     fn plain_run_state(state: *mut u8, state_len: usize, memory: *mut u8, memory_len: usize, budget: u64, result: *mut u8, result_len: usize) -> u64;
+    fn plain_run_tasks(tasks: *mut u8, tasks_len: usize, memory: *mut u8, memory_len: usize, quantum: u64, budget: u64, result: *mut u8, result_len: usize) -> u64;
     fn painted_call(function: *const (), eight_words: *const u64, painted_with: u8, its_answer: *mut u64) -> u64;
     static promised_stack: u64;
+    static promised_tasks_stack: u64;
 }
 
 #[cfg(not(stand_in))]
@@ -38,10 +42,12 @@ extern "C" fn glidecotton_read_image() -> u64 {
 pub struct Foreign {
     bench: Bench,
     run_state: RunState,
+    run_tasks: RunTasks,
 }
 
-pub const PROVED: Foreign = Foreign { bench: glidecotton_bench, run_state: glidecotton_run_state };
-pub const PLAIN_C: Foreign = Foreign { bench: plain_bench, run_state: plain_run_state };
+pub const PROVED: Foreign =
+    Foreign { bench: glidecotton_bench, run_state: glidecotton_run_state, run_tasks: glidecotton_run_tasks };
+pub const PLAIN_C: Foreign = Foreign { bench: plain_bench, run_state: plain_run_state, run_tasks: plain_run_tasks };
 
 impl Foreign {
     /// Runs an image; gives the length of the text in `out`, or 2 where a buffer does not suit.
@@ -67,6 +73,23 @@ impl Foreign {
             )
         }
     }
+
+    /// Runs four tasks spelled in bytes; gives 0, or 2 where `tasks` or `result` has a wrong length.
+    pub fn run_tasks(self, tasks: &mut [u8], memory: &mut [u8], quantum: u64, budget: u64, result: &mut [u8]) -> u64 {
+        // SAFETY: as above.
+        unsafe {
+            (self.run_tasks)(
+                tasks.as_mut_ptr(),
+                tasks.len(),
+                memory.as_mut_ptr(),
+                memory.len(),
+                quantum,
+                budget,
+                result.as_mut_ptr(),
+                result.len(),
+            )
+        }
+    }
 }
 
 /// What a call on a painted stack gave.
@@ -80,6 +103,12 @@ pub struct Painted {
 pub fn promise() -> u64 {
     // SAFETY: a constant of `c/painted.c`.
     unsafe { promised_stack }
+}
+
+/// And for a run of four tasks.
+pub fn promise_of_tasks() -> u64 {
+    // SAFETY: as above.
+    unsafe { promised_tasks_stack }
 }
 
 /// Runs an image on a stack painted with a byte, by the proved machine.
@@ -102,6 +131,20 @@ pub fn painted_run_state(paint: u8, state: &mut [u8], memory: &mut [u8], budget:
     let words = [lent_to_write(state), lent_to_write(memory), [budget, result], [length, 0]];
     // SAFETY: as above.
     unsafe { painted(glidecotton_run_state as *const (), words, paint) }
+}
+
+/// Runs four tasks on a stack painted with a byte, by the proved machine.
+pub fn painted_run_tasks(
+    paint: u8,
+    tasks: &mut [u8],
+    memory: &mut [u8],
+    quantum: u64,
+    budget: u64,
+    result: &mut [u8],
+) -> Painted {
+    let words = [lent_to_write(tasks), lent_to_write(memory), [quantum, budget], lent_to_write(result)];
+    // SAFETY: as above.
+    unsafe { painted(glidecotton_run_tasks as *const (), words, paint) }
 }
 
 fn lent(bytes: &[u8]) -> [u64; 2] {

@@ -1,28 +1,37 @@
 //! Runs that begin with a state in place of an image.
 
-use crate::fragments::{Arena, STYLES};
+use crate::fragments::{Arena, Taste, STYLES};
 use crate::grower::Grower;
+use crate::model::reach::{Reach, TASKS};
 use crate::model::state::{Machine, MEMORY};
+use crate::model::tasks::Task;
 use crate::random::Random;
 use crate::state_bytes::{RESULT_BYTES, STATE_BYTES};
 use crate::states::{broken, well_formed, CLAUSES};
+use crate::task_chains::Pace;
 
 /// Code of a state's runs lies here.
 const ARENA: Arena = Arena { start: 0, length: 4096 };
 
-/// The lengths of the buffers lent to one call of `run_state`.
+/// The lengths of the buffers lent to one call of `run_state` or `run_tasks`.
 #[derive(Clone, Copy)]
 pub struct Lengths {
-    pub state: usize,
+    /// Of the state, or of the tasks.
+    pub machines: usize,
     pub memory: usize,
     pub result: usize,
 }
 
 impl Lengths {
-    pub const RIGHT: Lengths = Lengths { state: STATE_BYTES, memory: MEMORY, result: RESULT_BYTES };
+    pub const RIGHT: Lengths = Lengths { machines: STATE_BYTES, memory: MEMORY, result: RESULT_BYTES };
+
+    /// Whether a call that wants so many bytes of machines takes the buffers; a wrong memory it takes, and answers 2.
+    pub fn suit(self, machines: usize) -> bool {
+        self.machines == machines && self.result == RESULT_BYTES
+    }
 }
 
-/// What takes each state through a run, and leaves machine and memory as the run leaves them.
+/// What takes each state, or four tasks, through a run, and leaves them and the memory as the run leaves them.
 pub trait Runner {
     type Failure;
 
@@ -32,6 +41,15 @@ pub trait Runner {
         machine: &mut Machine,
         memory: &mut Vec<u8>,
         budget: u64,
+        lengths: Lengths,
+    ) -> Result<(), Self::Failure>;
+
+    fn tasks(
+        &mut self,
+        kind: &'static str,
+        tasks: &mut [Task; TASKS],
+        memory: &mut Vec<u8>,
+        pace: Pace,
         lengths: Lengths,
     ) -> Result<(), Self::Failure>;
 }
@@ -62,7 +80,7 @@ fn wrong_call<R: Runner>(runner: &mut R, random: &mut Random) -> Result<u64, R::
     let mut budget = 5;
     let kind = match random.below(4) {
         0 => {
-            lengths.state = random.pick(&[0, 1, lengths.state - 1, lengths.state + 1]);
+            lengths.machines = random.pick(&[0, 1, STATE_BYTES - 1, STATE_BYTES + 1]);
             "state: of a wrong length"
         }
         1 => {
@@ -88,7 +106,7 @@ fn any_instruction<R: Runner>(runner: &mut R, random: &mut Random) -> Result<u64
     let mut memory = memory(random);
     let at = if random.percent(10) { MEMORY - random.between(1, 5) } else { random.below(MEMORY) };
     machine.program_counter = at as u32;
-    memory[at] = if random.percent(90) { random.below(0x3E) as u8 } else { random.byte() };
+    memory[at] = if random.percent(90) { random.below(0x3F) as u8 } else { random.byte() };
     let budget = random.between(0, 2) as u64;
     runner.state("state: any instruction", &mut machine, &mut memory, budget, Lengths::RIGHT)?;
     Ok(1)
@@ -104,7 +122,8 @@ fn chain<R: Runner>(runner: &mut R, random: &mut Random) -> Result<u64, R::Failu
         let (_, style) = random.pick(&STYLES);
         let target = random.between(1, 120) as u64;
         let copy: Box<[u8; MEMORY]> = memory.clone().into_boxed_slice().try_into().expect("a memory's length");
-        let grown = Grower { random, style, arena: ARENA, machine: machine.clone(), memory: copy }.grow(target);
+        let taste = Taste { style, arena: ARENA, reach: Reach::Alone };
+        let grown = Grower::new(random, copy, target).grow(machine.clone(), &taste);
         for (address, byte) in grown.chosen {
             memory[address] = byte;
         }
@@ -120,6 +139,7 @@ fn chain<R: Runner>(runner: &mut R, random: &mut Random) -> Result<u64, R::Failu
     Ok(runs)
 }
 
-fn memory(random: &mut Random) -> Vec<u8> {
+/// A memory full of anything.
+pub fn memory(random: &mut Random) -> Vec<u8> {
     random.bytes(256).repeat(MEMORY / 256)
 }

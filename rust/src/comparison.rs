@@ -3,11 +3,14 @@
 use crate::boundary::PROVED;
 use crate::chains::{Lengths, Runner};
 use crate::model::bench::bench;
-use crate::model::run::run;
+use crate::model::reach::TASKS;
+use crate::model::run::{run, Outcome};
 use crate::model::state::{Answer, Machine, MEMORY};
+use crate::model::tasks::{run_tasks, Task};
 use crate::random::Random;
-use crate::state_bytes::{spell, spell_result, RESULT_BYTES, STATE_BYTES};
+use crate::state_bytes::{spell, spell_result, spell_tasks, STATE_BYTES, TASKS_BYTES};
 use crate::tally::Tally;
+use crate::task_chains::Pace;
 
 /// A buffer that takes the longest text.
 pub const OUT: usize = 1024;
@@ -58,7 +61,7 @@ impl Comparison {
         self.ours.extend(&self.noise[..memory_length]);
         self.theirs.clone_from(&self.ours);
 
-        let model = bench(image, &mut self.ours, &mut self.tally);
+        let model = bench(image, &mut self.ours, &mut self.tally.instructions);
         let text = model.text.as_bytes();
         let out_length = room.bytes(text.len());
         let mut expected = self.noise[..out_length].to_vec();
@@ -83,6 +86,48 @@ impl Comparison {
             first_difference("memory", &self.ours, &self.theirs),
         )))
     }
+
+    /// Hands machines, memory and a result full of noise to both. The model's run is given where the lengths suit: it
+    /// gives the machines as they then are, and the outcome.
+    fn hand_to_both(
+        &mut self,
+        words: &str,
+        before: &[u8],
+        memory: &mut Vec<u8>,
+        lengths: Lengths,
+        model: Option<impl FnOnce(&mut Vec<u8>, &mut Tally) -> (Vec<u8>, Outcome)>,
+        proved: impl FnOnce(&mut [u8], &mut [u8], &mut [u8]) -> u64,
+    ) -> Result<(), Difference> {
+        let (mut ours, mut our_result) = (before.to_vec(), self.noise[..lengths.result].to_vec());
+        let (mut theirs, mut their_result) = (ours.clone(), our_result.clone());
+        memory.resize(lengths.memory, 0);
+        let memory_before = memory.clone();
+        self.theirs.clone_from(memory);
+
+        let mut expected_number = REFUSED;
+        if let Some(model) = model {
+            let (machines, outcome) = model(memory, &mut self.tally);
+            ours = machines;
+            our_result = spell_result(outcome);
+            expected_number = 0;
+        }
+        let number = proved(&mut theirs, &mut self.theirs, &mut their_result);
+        let same = number == expected_number && theirs == ours && self.theirs == *memory && their_result == our_result;
+        let difference = || {
+            Difference(format!(
+                "{words}\nbefore {}\nmemory {}\nmodel  {expected_number}: result {}\nproved {number}: result {}\n{}{}",
+                hex(before),
+                hex(&memory_before),
+                hex(&our_result),
+                hex(&their_result),
+                first_difference("what was handed in", &ours, &theirs),
+                first_difference("memory", memory, &self.theirs),
+            ))
+        };
+        let result = if same { Ok(()) } else { Err(difference()) };
+        memory.resize(MEMORY, 0);
+        result
+    }
 }
 
 impl Runner for Comparison {
@@ -98,44 +143,49 @@ impl Runner for Comparison {
         lengths: Lengths,
     ) -> Result<(), Difference> {
         self.tally.kind(kind);
-        let before = lent(machine, lengths.state);
-        let mut theirs = before.clone();
-        let mut their_result = self.noise[..lengths.result].to_vec();
-        let mut our_result = their_result.clone();
-        memory.resize(lengths.memory, 0);
-        let memory_before = memory.clone();
-        self.theirs.clone_from(memory);
+        let before = filled(spell(machine), lengths.machines);
+        let model = lengths.suit(STATE_BYTES).then_some(|memory: &mut Vec<u8>, tally: &mut Tally| {
+            let outcome = run(machine, memory, budget, &mut tally.instructions);
+            tally.answer(outcome.answer);
+            (spell(machine), outcome)
+        });
+        self.hand_to_both(
+            &format!("a state, budget {budget}"),
+            &before,
+            memory,
+            lengths,
+            model,
+            |state, memory, result| PROVED.run_state(state, memory, budget, result),
+        )
+    }
 
-        let mut ours = before.clone();
-        let mut expected_number = REFUSED;
-        if lengths.state == STATE_BYTES && lengths.result == RESULT_BYTES {
-            let outcome = run(machine, memory, budget, &mut self.tally);
-            self.tally.answer(outcome.answer);
-            ours = spell(machine);
-            our_result = spell_result(outcome);
-            expected_number = 0;
-        }
-        let number = PROVED.run_state(&mut theirs, &mut self.theirs, budget, &mut their_result);
-        let same = number == expected_number && theirs == ours && self.theirs == *memory && their_result == our_result;
-        memory.resize(MEMORY, 0);
-        if same {
-            return Ok(());
-        }
-        Err(Difference(format!(
-            "state  {}\nmemory {}\nbudget {budget}\nmodel  {expected_number}: result {}\nproved {number}: result {}\n{}{}",
-            hex(&before),
-            hex(&memory_before),
-            hex(&our_result),
-            hex(&their_result),
-            first_difference("state", &ours, &theirs),
-            first_difference("memory", memory, &self.theirs),
-        )))
+    /// Runs four tasks on both, and leaves tasks and memory as the model left them.
+    fn tasks(
+        &mut self,
+        kind: &'static str,
+        tasks: &mut [Task; TASKS],
+        memory: &mut Vec<u8>,
+        pace: Pace,
+        lengths: Lengths,
+    ) -> Result<(), Difference> {
+        let Pace { quantum, budget } = pace;
+        self.tally.turns.kind(kind);
+        let before = filled(spell_tasks(tasks), lengths.machines);
+        let model = lengths.suit(TASKS_BYTES).then_some(|memory: &mut Vec<u8>, tally: &mut Tally| {
+            tally.turns.begins(tasks, pace);
+            let outcome = run_tasks(tasks, memory, quantum, budget, &mut tally.turns);
+            tally.turns.answer(outcome.answer);
+            (spell_tasks(tasks), outcome)
+        });
+        let words = format!("four tasks, quantum {quantum}, budget {budget}");
+        self.hand_to_both(&words, &before, memory, lengths, model, |tasks, memory, result| {
+            PROVED.run_tasks(tasks, memory, quantum, budget, result)
+        })
     }
 }
 
-/// A state's bytes cut or filled up to a length.
-pub fn lent(machine: &Machine, length: usize) -> Vec<u8> {
-    let mut bytes = spell(machine);
+/// Bytes cut or filled up to a length.
+pub fn filled(mut bytes: Vec<u8>, length: usize) -> Vec<u8> {
     bytes.resize(length, 0xA5);
     bytes
 }

@@ -1,10 +1,11 @@
 //! The pieces that programs are grown from: one instruction, or one with the literals it needs.
 
-use crate::model::codes::{fetch, row_of};
+use crate::model::codes::{fetch, row_of, PAUSE_CODE};
 use crate::model::place::width;
+use crate::model::reach::Reach;
 use crate::model::refusal::refusal;
 use crate::model::state::{Machine, CATCHES, CELLS, FRAMES, MEMORY};
-use crate::operands::{address, cell, listed_cell};
+use crate::operands::{address, cell, listed_cell, seam};
 use crate::random::Random;
 
 /// How often each kind of fragment is picked.
@@ -46,28 +47,38 @@ pub struct Arena {
     pub length: usize,
 }
 
+/// What code is to be like.
+#[derive(Clone, Copy)]
+pub struct Taste {
+    pub style: Style,
+    pub arena: Arena,
+    pub reach: Reach,
+}
+
 impl Arena {
-    fn address(self, random: &mut Random) -> u32 {
+    pub fn address(self, random: &mut Random) -> u32 {
         (self.start + random.below(self.length)) as u32
     }
 }
 
 /// A fragment that the state allows, or after some tries whatever came last.
-pub fn fragment(random: &mut Random, style: &Style, arena: Arena, machine: &Machine) -> Vec<u8> {
-    let daring = random.below(1000) < style.daring;
-    let mut fragment = candidate(random, style, arena, machine, daring);
+pub fn fragment(random: &mut Random, taste: &Taste, machine: &Machine) -> Vec<u8> {
+    let daring = random.below(1000) < taste.style.daring;
+    let mut fragment = candidate(random, taste, machine, daring);
     for _ in 0..12 {
-        let first = fetch(&fragment, 0);
-        if daring || first.is_ok_and(|instruction| refusal(machine, &instruction).is_none()) {
+        // It is looked at by itself: where it is going to stand, some of its bytes may be out of reach.
+        let first = fetch(&fragment, Reach::Alone, 0);
+        if daring || first.is_ok_and(|instruction| refusal(machine, taste.reach, &instruction).is_none()) {
             break;
         }
-        fragment = candidate(random, style, arena, machine, daring);
+        fragment = candidate(random, taste, machine, daring);
     }
     fragment
 }
 
 /// One fragment by the style's weights, out of the kinds that have a chance in this state.
-fn candidate(random: &mut Random, style: &Style, arena: Arena, machine: &Machine, daring: bool) -> Vec<u8> {
+fn candidate(random: &mut Random, taste: &Taste, machine: &Machine, daring: bool) -> Vec<u8> {
+    let Taste { style, arena, reach } = *taste;
     let Machine { p, r, s, e, program_counter: here, .. } = *machine;
     let may_call = p < CELLS && r < CELLS && s < FRAMES;
     let kinds = [
@@ -82,6 +93,7 @@ fn candidate(random: &mut Random, style: &Style, arena: Arena, machine: &Machine
         (style.access, p > 0 && p < CELLS),
         (style.rewrite, p + 2 <= CELLS),
         (style.jumps, true),
+        (if reach == Reach::Alone { 1 } else { 8 }, true),
     ];
     let weights = kinds.map(|(weight, suits)| if suits || daring { weight } else { 0 });
     match weighted(random, &weights) {
@@ -93,9 +105,10 @@ fn candidate(random: &mut Random, style: &Style, arena: Arena, machine: &Machine
         5 => [literal(arena.address(random)), vec![0x0B, 0x20]].concat(),
         6 => throw(random),
         7 => vec![if random.percent(4) { 0x0C } else { 0x3D }],
-        8 => access(random),
+        8 => access(random, reach),
         9 => rewrite(random, here),
-        _ => jump(random, arena, here),
+        10 => jump(random, arena, here),
+        _ => vec![PAUSE_CODE],
     }
 }
 
@@ -140,16 +153,34 @@ fn throw(random: &mut Random) -> Vec<u8> {
 }
 
 /// A fetch, or a store of what lies below the address. Most addresses are good, many of them just so.
-fn access(random: &mut Random) -> Vec<u8> {
+fn access(random: &mut Random, reach: Reach) -> Vec<u8> {
     let code = random.between(0x2D, 0x32) as u8;
     let bytes = row_of(code).map_or(0, |row| width(row.op));
     let address = match random.below(32) {
         0 => address(random),
-        1..=9 => (MEMORY - bytes - random.below(3)) as u32,
+        1..=9 => edge(random, reach, bytes),
         10..=25 if bytes == 4 => listed_cell(random),
-        _ => random.below(MEMORY - bytes) as u32,
+        _ => allowed(reach, bytes, || random.below(MEMORY - bytes)),
     };
     [literal(address), vec![code]].concat()
+}
+
+/// An address at which so many bytes are just in memory, or just in reach of a task.
+fn edge(random: &mut Random, reach: Reach, bytes: usize) -> u32 {
+    match reach {
+        Reach::Alone => (MEMORY - bytes - random.below(3)) as u32,
+        Reach::Task(_) => allowed(reach, bytes, || (seam(random) as usize).min(MEMORY - bytes)),
+    }
+}
+
+/// The first of the addresses drawn at which so many bytes are in reach.
+fn allowed(reach: Reach, bytes: usize, mut drawn: impl FnMut() -> usize) -> u32 {
+    loop {
+        let start = drawn();
+        if reach.allows(start..start + bytes) {
+            return start as u32;
+        }
+    }
 }
 
 /// A store of likely codes over what is run next or was run just now.
@@ -171,9 +202,12 @@ fn jump(random: &mut Random, arena: Arena, here: u32) -> Vec<u8> {
 }
 
 /// Something that is likely to end the run, in one of the ways that the answers list.
-pub fn ending(random: &mut Random) -> Vec<u8> {
+pub fn ending(random: &mut Random, reach: Reach) -> Vec<u8> {
+    if reach != Reach::Alone && random.percent(30) {
+        return over_a_seam(random);
+    }
     match random.below(8) {
-        0 => vec![random.between(0x3E, 0x7F) as u8],
+        0 => vec![random.between(0x3F, 0x7F) as u8],
         1 => vec![random.pick(&[0x3A, 0x3B, 0x3C])],
         2 => vec![0x0C, 0x3D],
         3 => vec![0x0C, random.pick(&[0x08, 0x09, 0x01, 0x0E, 0x06])],
@@ -182,6 +216,11 @@ pub fn ending(random: &mut Random) -> Vec<u8> {
         6 => [literal(address(random)), vec![random.between(0x2D, 0x32) as u8]].concat(),
         _ => vec![random.pick(&[0x3D, 0x20, 0x07, 0x0B, 0x39])],
     }
+}
+
+/// An access around a seam, or a jump there.
+fn over_a_seam(random: &mut Random) -> Vec<u8> {
+    [literal(seam(random)), vec![random.pick(&[0x2D, 0x2E, 0x2F, 0x30, 0x31, 0x32, 0x37, 0x37, 0x37])]].concat()
 }
 
 fn literal(value: u32) -> Vec<u8> {

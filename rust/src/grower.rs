@@ -1,14 +1,16 @@
-//! Programs that run for long: each byte is chosen when the machine comes to it.
+//! Programs that run for long: each byte is chosen when a machine comes to it.
 //!
 //! A random string of bytes is refused within a few steps. Here the model runs ahead, and where it reaches a byte that
 //! nobody has chosen yet, a fragment is picked that suits the state it is in. What was stored over is left as it is
 //! and carried out, so programs also run what they wrote.
 
-use crate::fragments::{ending, fragment, Arena, Style};
-use crate::model::codes::fetch;
+use crate::fragments::{ending, fragment, Taste};
+use crate::model::codes::{fetch, PAUSE_CODE};
 use crate::model::place::width;
+use crate::model::reach::TASKS;
 use crate::model::state::{Answer, Machine, MEMORY};
 use crate::model::step::step;
+use crate::model::tasks::{next_ready, Task};
 use crate::random::Random;
 
 /// Steps that an ending may take before it is given up.
@@ -18,63 +20,101 @@ const ENDING: u64 = 40;
 pub struct Grown {
     pub chosen: Vec<(usize, u8)>,
     pub steps: u64,
+    /// The answer that ended the run of one machine.
     pub ended: Option<Answer>,
 }
 
 pub struct Grower<'a> {
-    pub random: &'a mut Random,
-    pub style: Style,
-    pub arena: Arena,
-    pub machine: Machine,
-    pub memory: Box<[u8; MEMORY]>,
+    random: &'a mut Random,
+    memory: Box<[u8; MEMORY]>,
+    /// The bytes that are no longer to be chosen.
+    decided: Vec<bool>,
+    grown: Grown,
+    /// Steps after which endings are chosen, and after which growth stops.
+    target: u64,
+    limit: u64,
 }
 
-impl Grower<'_> {
-    /// Runs ahead for so many steps, choosing code on the way; half of the programs then get an ending.
-    pub fn grow(mut self, target: u64) -> Grown {
-        let mut decided = vec![false; MEMORY];
-        let mut grown = Grown { chosen: Vec::new(), steps: 0, ended: None };
-        let limit = if self.random.percent(50) { target + ENDING } else { target };
-        while grown.ended.is_none() && grown.steps < limit {
-            let here = self.machine.program_counter as usize;
-            if decided.get(here) == Some(&false) {
-                let bytes = if grown.steps < target {
-                    fragment(self.random, &self.style, self.arena, &self.machine)
-                } else {
-                    ending(self.random)
-                };
-                self.choose(here, &bytes, &mut decided, &mut grown);
-            }
-            self.note_store(&mut decided);
-            match step(&mut self.machine, &mut self.memory) {
-                Ok(_) => grown.steps += 1,
-                Err(answer) => grown.ended = Some(answer),
+impl<'a> Grower<'a> {
+    /// For so many steps; half of the programs then get an ending.
+    pub fn new(random: &'a mut Random, memory: Box<[u8; MEMORY]>, target: u64) -> Grower<'a> {
+        let limit = if random.percent(50) { target + ENDING } else { target };
+        let grown = Grown { chosen: Vec::new(), steps: 0, ended: None };
+        Grower { random, memory, decided: vec![false; MEMORY], grown, target, limit }
+    }
+
+    /// Runs one machine ahead, choosing code on the way.
+    pub fn grow(mut self, mut machine: Machine, taste: &Taste) -> Grown {
+        while self.grown.ended.is_none() && self.grown.steps < self.limit {
+            self.grown.ended = self.step(&mut machine, taste).err();
+        }
+        self.grown
+    }
+
+    /// Runs four tasks ahead in turns, choosing code on the way.
+    pub fn grow_turns(mut self, mut tasks: [Task; TASKS], tastes: &[Taste; TASKS], quantum: u64) -> Grown {
+        let mut first = 0;
+        while self.grown.steps < self.limit {
+            let Some(number) = next_ready(&tasks, first) else { break };
+            self.grow_turn(&mut tasks[number], &tastes[number], quantum);
+            first = number + 1;
+        }
+        self.grown
+    }
+
+    fn grow_turn(&mut self, task: &mut Task, taste: &Taste, quantum: u64) {
+        let end = self.limit.min(self.grown.steps + quantum);
+        while self.grown.steps < end {
+            match self.step(&mut task.machine, taste) {
+                Ok(PAUSE_CODE) => return,
+                Ok(_) => {}
+                Err(answer) => {
+                    task.kept = answer.number();
+                    return;
+                }
             }
         }
-        grown
+    }
+
+    /// Carries out a machine's next instruction, chosen now where it was not before, and gives its code.
+    fn step(&mut self, machine: &mut Machine, taste: &Taste) -> Result<u8, Answer> {
+        let here = machine.program_counter as usize;
+        if self.decided.get(here) == Some(&false) {
+            let bytes = if self.grown.steps < self.target {
+                fragment(self.random, taste, machine)
+            } else {
+                ending(self.random, taste.reach)
+            };
+            self.choose(here, &bytes);
+        }
+        self.note_store(machine, taste);
+        let code = self.memory.get(here).copied().unwrap_or(0);
+        step(machine, &mut self.memory, taste.reach)?;
+        self.grown.steps += 1;
+        Ok(code)
     }
 
     /// Writes a fragment, but not over bytes that are decided.
-    fn choose(&mut self, here: usize, bytes: &[u8], decided: &mut [bool], grown: &mut Grown) {
+    fn choose(&mut self, here: usize, bytes: &[u8]) {
         for (address, &byte) in (here..MEMORY).zip(bytes) {
-            if !decided[address] {
-                decided[address] = true;
+            if !self.decided[address] {
+                self.decided[address] = true;
                 self.memory[address] = byte;
-                grown.chosen.push((address, byte));
+                self.grown.chosen.push((address, byte));
             }
         }
     }
 
     /// A byte that the program is about to store over is no longer ours to choose.
-    fn note_store(&self, decided: &mut [bool]) {
-        let Ok(instruction) = fetch(&self.memory[..], self.machine.program_counter) else {
+    fn note_store(&mut self, machine: &Machine, taste: &Taste) {
+        let Ok(instruction) = fetch(&self.memory[..], taste.reach, machine.program_counter) else {
             return;
         };
         let row = instruction.row;
         let stores = width(row.op) > 0 && row.takes == 2;
-        if stores && self.machine.p >= 2 {
-            let start = self.machine.parameters[self.machine.p - 1] as usize;
-            if let Some(bytes) = decided.get_mut(start..start + width(row.op)) {
+        if stores && machine.p >= 2 {
+            let start = machine.parameters[machine.p - 1] as usize;
+            if let Some(bytes) = self.decided.get_mut(start..start + width(row.op)) {
                 bytes.fill(true);
             }
         }

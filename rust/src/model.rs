@@ -9,11 +9,19 @@ pub mod codes;
 mod edges;
 pub mod image;
 pub mod links;
+pub mod observer;
 pub mod place;
+pub mod reach;
 pub mod refusal;
 pub mod run;
+#[cfg(test)]
+mod seams;
 #[cfg(test)]
 mod sheet;
 pub mod state;
 pub mod step;
+pub mod tasks;
+pub mod turn;
+#[cfg(test)]
+mod turns;
 pub mod word;

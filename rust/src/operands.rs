@@ -1,5 +1,6 @@
 //! Numbers that are worth trying as cells and as addresses.
 
+use crate::model::reach::{PART, SHARED, TASKS};
 use crate::model::state::MEMORY;
 use crate::random::Random;
 
@@ -27,6 +28,17 @@ pub fn address(random: &mut Random) -> u32 {
         6 => 0u32.wrapping_sub(6).wrapping_add(near),
         _ => random.pick(&[0x8000_0000, 0x7FFF_FFFF, 0xFFFF_8000, 0x0100_0000, 0x0001_8000]),
     }
+}
+
+/// An address around the start of a task's part or the end of memory.
+pub fn seam(random: &mut Random) -> u32 {
+    let start = SHARED + PART * random.between(0, TASKS);
+    around(random, start)
+}
+
+/// Some bytes before an address, or a few after it.
+pub fn around(random: &mut Random, address: usize) -> u32 {
+    (address - 6 + random.below(9)) as u32
 }
 
 /// The address of a local cell or of a cell of the exception level.

@@ -2,12 +2,15 @@
 
 use std::convert::Infallible;
 
-use crate::boundary::{painted_bench, painted_read_image, painted_run_state, Painted};
+use crate::boundary::{painted_bench, painted_read_image, painted_run_state, painted_run_tasks, Painted};
 use crate::chains::{Lengths, Runner};
-use crate::comparison::{lent, Room, OUT};
+use crate::comparison::{filled, Room, OUT};
+use crate::model::reach::TASKS;
 use crate::model::run::run;
 use crate::model::state::{Machine, MEMORY};
-use crate::state_bytes::{READ_RESULT_BYTES, RESULT_BYTES, STATE_BYTES};
+use crate::model::tasks::{run_tasks, Task};
+use crate::state_bytes::{spell, spell_tasks, READ_RESULT_BYTES, RESULT_BYTES, STATE_BYTES};
+use crate::task_chains::Pace;
 
 /// No byte has the colour of both: what is written in the one is seen on the other.
 const PAINTS: [u8; 2] = [0xA5, 0x5A];
@@ -34,6 +37,7 @@ pub struct Depths {
     pub bench: Depth,
     pub read_image: Depth,
     pub run_state: Depth,
+    pub run_tasks: Depth,
 }
 
 impl Depths {
@@ -80,9 +84,46 @@ impl Runner for Depths {
         lengths: Lengths,
     ) -> Result<(), Infallible> {
         memory.resize(lengths.memory, 0);
-        self.run_bytes(&lent(machine, lengths.state), memory, budget, lengths.result);
+        self.run_bytes(&filled(spell(machine), lengths.machines), memory, budget, lengths.result);
         run(machine, memory, budget, &mut ());
         memory.resize(MEMORY, 0);
         Ok(())
+    }
+
+    /// As above, with the tasks.
+    fn tasks(
+        &mut self,
+        _kind: &'static str,
+        tasks: &mut [Task; TASKS],
+        memory: &mut Vec<u8>,
+        Pace { quantum, budget }: Pace,
+        lengths: Lengths,
+    ) -> Result<(), Infallible> {
+        memory.resize(lengths.memory, 0);
+        let bytes = filled(spell_tasks(tasks), lengths.machines);
+        let mut result = vec![0; lengths.result];
+        self.run_tasks.seen(|paint| {
+            let (mut bytes, mut memory) = (bytes.clone(), memory.clone());
+            painted_run_tasks(paint, &mut bytes, &mut memory, quantum, budget, &mut result)
+        });
+        run_tasks(tasks, memory, quantum, budget, &mut ());
+        memory.resize(MEMORY, 0);
+        Ok(())
+    }
+}
+
+#[cfg(test)]
+mod tests {
+    use super::*;
+    use crate::random::Random;
+    use crate::task_chains::any_tasks;
+
+    #[test]
+    fn runs_of_four_tasks_are_seen() {
+        let mut depths = Depths::default();
+        let mut random = Random::new(1);
+        let Ok(runs) = any_tasks(&mut depths, &mut random);
+        assert_eq!(depths.run_tasks.calls, runs);
+        assert!(depths.run_tasks.deepest > 0);
     }
 }

@@ -4,8 +4,9 @@ use crate::assembler::image;
 use crate::budgets::{stopped, GIVEN_BUDGET};
 use crate::comparison::Room;
 use crate::damage::damaged;
-use crate::fragments::{Arena, STYLES};
+use crate::fragments::{Arena, Taste, STYLES};
 use crate::grower::{Grower, Grown};
+use crate::model::reach::Reach;
 use crate::model::state::{Machine, MEMORY};
 use crate::operands::cell;
 use crate::random::Random;
@@ -49,10 +50,9 @@ fn program(random: &mut Random) -> (&'static str, Vec<u8>) {
     let cells = cells(random);
     let mut machine = Machine::fresh();
     cells.iter().for_each(|&cell| machine.push(cell));
-    let arena = arena(random);
+    let taste = Taste { style, arena: arena(random), reach: Reach::Alone };
     let target = random.between(30, 250) as u64;
-    let memory = Box::new([0; MEMORY]);
-    let grown = Grower { random, style, arena, machine, memory }.grow(target);
+    let grown = Grower::new(random, Box::new([0; MEMORY]), target).grow(machine, &taste);
 
     let mut memory = vec![0; MEMORY];
     let mut end = 1;

@@ -2,7 +2,7 @@
 
 use std::time::{Duration, Instant};
 
-use crate::tally::grouped;
+use crate::counts::grouped;
 
 const EVERY: Duration = Duration::from_secs(5);
 

@@ -132,7 +132,7 @@ const SMALL: &str = "LOAD.B 5  LOAD.B 7  +  DUP  LOAD.W $4000  STORE.L  JSL word
 mod tests {
     use super::*;
     use crate::model::bench::bench;
-    use crate::model::run::{Observer, Seen};
+    use crate::model::observer::{Observer, Seen};
     use crate::model::state::{Answer, MEMORY};
 
     struct Counts([u64; 256]);

@@ -1,7 +1,9 @@
-//! A whole state as bytes, big endian, in the order in which the boundary passes it.
+//! A whole state, and four tasks, as bytes, big endian, in the order in which the boundary passes it.
 
+use crate::model::reach::TASKS;
 use crate::model::run::Outcome;
 use crate::model::state::{Machine, CATCHES, CATCH_CELLS, CELLS, FRAMES, LOCALS};
+use crate::model::tasks::Task;
 
 const POINTER: usize = 8;
 const CELL: usize = 4;
@@ -10,10 +12,11 @@ const CATCH: usize = CATCH_CELLS * CELL + 2 * POINTER + CELL;
 
 pub const STATE_BYTES: usize =
     2 * (CELLS * CELL + POINTER) + (FRAMES + 1) * FRAME + POINTER + (CATCHES + 1) * CATCH + POINTER + 2 * CELL;
+pub const TASKS_BYTES: usize = TASKS * (STATE_BYTES + POINTER);
 pub const RESULT_BYTES: usize = 3 * POINTER;
 pub const READ_RESULT_BYTES: usize = POINTER;
 
-const _: () = assert!(STATE_BYTES == 3528);
+const _: () = assert!(STATE_BYTES == 3528 && TASKS_BYTES == 14_144);
 
 pub fn spell(machine: &Machine) -> Vec<u8> {
     let mut bytes = Vec::with_capacity(STATE_BYTES);
@@ -36,6 +39,11 @@ pub fn spell(machine: &Machine) -> Vec<u8> {
     put_pointer(&mut bytes, machine.e);
     put_cells(&mut bytes, &[machine.program_counter, machine.flag]);
     bytes
+}
+
+/// Each task is its state and its kept number.
+pub fn spell_tasks(tasks: &[Task; TASKS]) -> Vec<u8> {
+    tasks.each_ref().map(|task| [spell(&task.machine), task.kept.to_be_bytes().to_vec()].concat()).concat()
 }
 
 pub fn spell_result(outcome: Outcome) -> Vec<u8> {

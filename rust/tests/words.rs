@@ -38,6 +38,7 @@ fn numbers_are_looked_at() {
         &["--seed", ""],
         &["--images", "-1"],
         &["--states", "1e6"],
+        &["--tasks", "four"],
         &["--seed", "1000000000000000000"],
     ] {
         for script in ["./compare", "./stack"] {

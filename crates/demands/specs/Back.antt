@@ -4,6 +4,7 @@ use Prim.Native.Nat.{ℕ, _≤_}
 use Rattle.links.specs.Restored.{Restored}
 use Rattle.machine.specs.Rows.{top, localsInView, cellsInView}
 use Rattle.machine.specs.Step.{done, stepOf}
+use Rattle.machine.specs.declared.Reach.{Reach}
 use Rattle.demands.specs.History.{World, codeAt, pointerE, Moment, step, History, then, joined, StaysAbove, Accepted}
 
 -- from a, through any history, to a CATCH at o that is carried out and leads to w; from there through any history to v with E above
@@ -11,8 +12,9 @@ use Rattle.demands.specs.History.{World, codeAt, pointerE, Moment, step,
 pub record Loses (a o w v z : World) : Type 0 where
   pub before : History a o
   pub catches : codeAt o ≡ 0x0B
+  pub reach : Reach
   pub cost : ℕ
-  pub carried : stepOf (o .memory) (o .machine) ≡ done (w .memory) (w .machine) cost
+  pub carried : stepOf reach (o .memory) (o .machine) ≡ done (w .memory) (w .machine) cost
   pub between : History w v
   pub above : StaysAbove (pointerE o) between
   pub last : Moment v z
@@ -20,7 +22,7 @@ pub record Loses (a o w v z : World) : Type 0 where
 
 -- all of it as one history, with what comes after
 abbrev pub through : {a o w v z b : World} → Loses a o w v z → History z b → History a b
-through l after = joined (l .before) (then (step (l .cost) (l .carried)) (joined (l .between) (then (l .last) after)))
+through l after = joined (l .before) (then (step (l .reach) (l .cost) (l .carried)) (joined (l .between) (then (l .last) after)))
 
 -- the instruction at the counter of v, which led to z, is EXIT, R> or THROW of non-zero; after a throw P is what it was at o,
 -- before the CATCH, and the code thrown is on top

@@ -4,12 +4,12 @@ use mathlib.Core.Bool.{true}
 use mathlib.Core.List.{List}
 use Prim.Native.Nat.{ℕ, zero, suc, _+_, _<_}
 use Rattle.numbers.specs.Bytes.{byteAt}
-use Rattle.machine.specs.Fetch.{instructionAt}
-use Rattle.machine.specs.Step.{done, stepOf, costOf}
+use Rattle.machine.specs.Step.{done, stepOf}
 use Rattle.machine.specs.State.{wellFormed, Whole}
 use Rattle.machine.specs.Fits.{AllBytes}
 use Rattle.machine.specs.Run.{After}
 use Rattle.machine.specs.declared.Machine.{Machine}
+use Rattle.machine.specs.declared.Reach.{Reach}
 
 pub record World : Type 0 where
   pub memory : List ℕ
@@ -22,22 +22,21 @@ world memory machine = record { memory = memory; machine = machine }
 abbrev pub worldAfter : After → World
 worldAfter a = world (a .memory) (a .ran .machine)
 
--- the code at the program counter, the pointer E, the clock cycles of the instruction at the program counter
+-- the code at the program counter, the pointer E
 abbrev pub codeAt : World → ℕ
 codeAt w = byteAt (w .memory) (w .machine .counter)
 
 abbrev pub pointerE : World → ℕ
 pointerE w = w .machine .links .e
 
-abbrev pub costAt : World → ℕ
-costAt w = costOf (instructionAt (w .memory) (w .machine .counter)) (w .machine)
-
 -- one moment of a history: an event of a new kind is one more case here
 pub data Moment (w v : World) : Type 0 where
-  -- an instruction is carried out
-  step : (k : ℕ) → stepOf (w .memory) (w .machine) ≡ done (v .memory) (v .machine) k → Moment w v
+  -- an instruction is carried out under a reach, in k clock cycles
+  step : (reach : Reach) (k : ℕ) → stepOf reach (w .memory) (w .machine) ≡ done (v .memory) (v .machine) k → Moment w v
   -- the host may change the memory as it likes, and hands the machine back unaltered
   host : v .machine ≡ w .machine → Moment w v
+  -- another task has its turn, which may change the memory and leaves this machine as it was
+  others : v .machine ≡ w .machine → Moment w v
 
 pub data History : World → World → Type 0 where
   here : {w : World} → History w w
@@ -51,30 +50,42 @@ joined (then moment rest) later = then moment (joined rest later)
 -- how many instructions a history carries out, and the sum of their clock cycles
 abbrev pub stepsIn : {w v : World} → History w v → ℕ
 stepsIn here = zero
-stepsIn (then (step k e) rest) = suc (stepsIn rest)
+stepsIn (then (step reach k e) rest) = suc (stepsIn rest)
 stepsIn (then (host e) rest) = stepsIn rest
+stepsIn (then (others e) rest) = stepsIn rest
 
 abbrev pub cyclesIn : {w v : World} → History w v → ℕ
 cyclesIn here = zero
-cyclesIn {w} (then (step k e) rest) = costAt w + cyclesIn rest
+cyclesIn (then (step reach k e) rest) = k + cyclesIn rest
 cyclesIn (then (host e) rest) = cyclesIn rest
+cyclesIn (then (others e) rest) = cyclesIn rest
 
--- instructions alone, with no change by the host
+-- instructions alone: nothing by the host, no turn of another task
 abbrev pub Unbroken : {w v : World} → History w v → Type 0
 Unbroken here = Unit {0}
-Unbroken (then (step k e) rest) = Unbroken rest
+Unbroken (then (step reach k e) rest) = Unbroken rest
 Unbroken (then (host e) rest) = ⊥
+Unbroken (then (others e) rest) = ⊥
 
--- what the host leaves as memory is bytes
-abbrev pub HostLeavesBytes : {w v : World} → History w v → Type 0
-HostLeavesBytes here = Unit {0}
-HostLeavesBytes (then (step k e) rest) = HostLeavesBytes rest
-HostLeavesBytes (then {u = u} (host e) rest) = AllBytes (u .memory) × HostLeavesBytes rest
+-- every instruction is carried out under this reach
+abbrev pub Under : Reach → {w v : World} → History w v → Type 0
+Under reach here = Unit {0}
+Under reach (then (step own k e) rest) = (own ≡ reach) × Under reach rest
+Under reach (then (host e) rest) = Under reach rest
+Under reach (then (others e) rest) = Under reach rest
+
+-- what the host and the other tasks leave as memory is bytes
+abbrev pub LeavesBytes : {w v : World} → History w v → Type 0
+LeavesBytes here = Unit {0}
+LeavesBytes (then (step reach k e) rest) = LeavesBytes rest
+LeavesBytes (then {u = u} (host e) rest) = AllBytes (u .memory) × LeavesBytes rest
+LeavesBytes (then {u = u} (others e) rest) = AllBytes (u .memory) × LeavesBytes rest
 
 -- a moment that carries out a RESETSP
 abbrev pub Resets : {w v : World} → Moment w v → Type 0
-Resets {w} (step k e) = codeAt w ≡ 0x0C
+Resets {w} (step reach k e) = codeAt w ≡ 0x0C
 Resets (host e) = ⊥
+Resets (others e) = ⊥
 
 -- E is above n from the first to the last
 abbrev pub StaysAbove : ℕ → {w v : World} → History w v → Type 0

@@ -8,6 +8,8 @@ pub mod Joined
 pub mod Every
 -- the first test that holds has the lowest number
 pub mod Lowest
+-- alone no byte is another's, and past the end of memory there is no EXIT
+pub mod Alone
 -- a refusal's number
 pub mod Refused
 -- a step that no test refuses is carried out

@@ -21,6 +21,6 @@ pub record Lowest (n : ℕ) (ts : List Test) : Type 0 where
   pub applies : Applies n ts
   pub lowest : (k : ℕ) → Applies k ts → n ≤ k
 
--- the highest number by which an instruction is refused
+-- the highest number by which an instruction is refused, alone
 abbrev pub highest : ℕ
 highest = 13

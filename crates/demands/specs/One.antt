@@ -4,6 +4,7 @@ use mathlib.Core.Bool.{true, false}
 use mathlib.Core.List.{List}
 use Prim.Native.Nat.{ℕ, _≤_}
 use Rattle.plain.specs.Answer.{notAsAsked}
+use Rattle.machine.specs.Reach.{alone}
 use Rattle.machine.specs.Run.{After, ended, acceptable}
 use Rattle.machine.specs.declared.Machine.{Machine}
 use Rattle.demands.specs.History.{world}
@@ -20,4 +21,4 @@ pub record One (mem : List ℕ) (m : Machine) (budget : ℕ) (a : After) : Type 
   pub untouched : a .ran .answer ≡ notAsAsked → (acceptable mem m budget ≡ false) × (a ≡ ended notAsAsked mem m 0 0)
   -- any other answer comes after completed instructions alone. Memory, machine and counters are as they left them: the budget is
   -- spent, or the instruction that the counter is on is refused with this answer and has altered nothing
-  pub as-before : (a .ran .answer ≡ notAsAsked → ⊥) → (acceptable mem m budget ≡ true) × Course budget (world mem m) 0 0 a
+  pub as-before : (a .ran .answer ≡ notAsAsked → ⊥) → (acceptable mem m budget ≡ true) × Course alone false budget (world mem m) 0 0 a

@@ -2,8 +2,9 @@
 use mathlib.Core.List.{List, [], _∷_}
 use mathlib.Core.Path.{_≡_, refl}
 use Prim.Native.Nat.{ℕ}
+use Rattle.machine.specs.Reach.{alone}
 use Rattle.machine.specs.Run.{After, runOf}
-use Rattle.demands.specs.History.{World, world, worldAfter, host, History, here, then, joined, stepsIn, cyclesIn, Unbroken}
+use Rattle.demands.specs.History.{World, world, worldAfter, host, History, here, then, joined, stepsIn, cyclesIn, Unbroken, Under}
 
 -- what the host hands in for a run, beside the machine: any memory and any budget
 pub record Given : Type 0 where
@@ -22,10 +23,12 @@ abbrev pub worldAfterRuns : World → List Given → World
 worldAfterRuns w [] = w
 worldAfterRuns w (g ∷ gs) = worldAfterRuns (worldAfter (ranBy w g)) gs
 
--- a history of completed instructions alone, from w to what a run left, as many as the run reports and in as many cycles
+-- a history of completed instructions alone, with all of memory in reach, from w to what a run left, as many as the run reports and in
+-- as many cycles
 pub record RunHistory (w : World) (a : After) : Type 0 where
   pub history : History w (worldAfter a)
   pub unbroken : Unbroken history
+  pub under : Under alone history
   pub steps : stepsIn history ≡ a .ran .steps .0
   pub cycles : cyclesIn history ≡ a .ran .cycles .0
 

@@ -1,4 +1,5 @@
--- The tests before an instruction is carried out, in document 01's order: the first that holds gives the answer.
+-- The tests before an instruction is carried out, in document 01's order, with request P1's number 17 for bytes of another's part:
+-- the first that holds gives the answer.
 use mathlib.Core.Bool.{Bool, true, false}
 use mathlib.Core.List.{List, [], _∷_}
 use Prim.Native.Nat.{ℕ, _+_}
@@ -7,6 +8,7 @@ use lib.ListN.{length}
 use Rattle.plain.specs.Choice.{pick, both, not, decided}
 use Rattle.links.specs.Depths.{cellsDepth, returnsDepth, subroutinesDepth, exceptionsDepth}
 use Rattle.links.specs.Actions.{Act, still, push, call, catch, exit, pop, throw, keep, reset}
+use Rattle.machine.specs.Reach.{barOf, isOutside, isForeign}
 use Rattle.machine.specs.Codes.{entryAt}
 use Rattle.machine.specs.Fetch.{Instruction}
 use Rattle.machine.specs.Rows.{Row, Lack, aReturnCell, aPlace, aDivisor, Lack-discrete}
@@ -52,10 +54,11 @@ test number holds = record { number = number; holds = holds }
 
 abbrev pub tests : Instruction → Machine → Row → List Test
 tests i m row =
+    -- the first byte of the instruction that may not be read is outside memory, is in another's part
+    test 3 (isOutside (i .bar)) ∷
+    test 17 (isForeign (i .bar)) ∷
     -- EXIT with S = 0: the end of the program
     test 0 (both (wants row aFrame) (eqb (m .links .s) 0)) ∷
-    -- a byte of the instruction is outside memory
-    test 3 (i .outside) ∷
     -- unknown code
     test 4 (not (entryAt (i .code) .known)) ∷
     -- fewer parameter cells than the code takes
@@ -75,4 +78,6 @@ tests i m row =
     -- address neither in memory nor a listed cell
     test 12 (lacks row aPlace) ∷
     -- divisor zero
-    test 13 (lacks row aDivisor) ∷ []
+    test 13 (lacks row aDivisor) ∷
+    -- an access touches another's part
+    test 17 (isForeign (barOf (i .reach) (row .from) (row .touches))) ∷ []

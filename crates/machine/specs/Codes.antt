@@ -3,7 +3,7 @@ use mathlib.Core.Bool.{Bool, true, false}
 use mathlib.Core.List.{List, [], _∷_, map}
 use Prim.Native.Nat.{ℕ, suc}
 use lib.Dec.{ltb}
-use lib.ListN.{getD}
+use lib.ListN.{getD, take}
 use Rattle.plain.specs.Choice.{pick}
 use Rattle.word.specs.declared.OneCell.{OneCell}
 use Rattle.word.specs.declared.OneCell.the-variants.{Negate, Increment, Decrement, Halve, ZeroEqual, ZeroUnequal, ZeroLess, ZeroGreater, Invert, ShiftLeft, ShiftRight, ExtendByte, ExtendWord}
@@ -14,7 +14,7 @@ use Rattle.machine.specs.declared.Width.the-variants.{Byte, Word, Long}
 
 -- the instructions on parameter cells alone
 pub data Shuffle : Type 0 where
-  NOP DROP DUP SWAP OVER NIP ROT PSP-AT ZERO DUP-NONZERO : Shuffle
+  NOP DROP DUP SWAP OVER NIP ROT PSP-AT ZERO DUP-NONZERO PAUSE : Shuffle
   deriving Discrete as Shuffle-discrete
 
 -- those that only go elsewhere
@@ -66,9 +66,12 @@ bytesWith none = 1
 bytesWith (number bytes) = suc bytes
 bytesWith offset = 2
 
--- codes 00 to 3D stand in a table
-abbrev pub tableEnd : ℕ
-tableEnd = 0x3E
+-- codes 00 to 3E stand in a table; the cycle table of document 01 ends before the last, PAUSE
+abbrev pub cyclesEnd : ℕ
+cyclesEnd = 0x3E
+
+abbrev pub codePAUSE : ℕ
+codePAUSE = 0x3E
 
 unfoldable pub table : List Entry
 table =
@@ -134,7 +137,8 @@ table =
     unknown ∷  -- 3A unknown
     unknown ∷  -- 3B unknown
     unknown ∷  -- 3C unknown
-    entry (LINK EXIT) none 0 0 2 ∷ []  -- 3D EXIT
+    entry (LINK EXIT) none 0 0 2 ∷  -- 3D EXIT
+    entry (SHUFFLE PAUSE) none 0 0 1 ∷ []  -- 3E PAUSE
 
 -- the branches
 abbrev pub entryBEQ : Entry
@@ -143,7 +147,7 @@ entryBEQ = entry (JUMP BEQ) offset 1 0 2
 abbrev pub entryBRA : Entry
 entryBRA = entry (JUMP BRA) offset 0 0 2
 
--- 80 to BF is BEQ, C0 to FF is BRA, 3E to 7F are unknown
+-- 80 to BF is BEQ, C0 to FF is BRA, 3F to 7F are unknown
 unfoldable pub entryAt : ℕ → Entry
 entryAt code = pick (ltb code 0x80) (getD table code unknown) (pick (ltb code 0xC0) entryBEQ entryBRA)
 
@@ -154,4 +158,4 @@ cyclesOf code = entryAt code .cycles
 -- the cycle table: one count for each code from 00 to 3D
 unfoldable pub cycleTable : List ℕ
 unfolding table
-cycleTable = map (λ e. e .cycles) table
+cycleTable = map (λ e. e .cycles) (take cyclesEnd table)

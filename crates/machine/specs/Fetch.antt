@@ -1,18 +1,18 @@
 -- The instruction at the program counter: its code, its operand and the address of the following instruction.
-use mathlib.Core.Bool.{Bool}
 use mathlib.Core.List.{List}
 use Prim.Native.Nat.{ℕ, _+_, _-_, _*_, _/_, _%_, _^_}
-use lib.Dec.{ltb}
 use Rattle.numbers.specs.Bytes.{byteAt, numberAt}
-use Rattle.machine.specs.Limits.{memoryLength}
+use Rattle.machine.specs.Reach.{Bar, barOf}
 use Rattle.machine.specs.Codes.{Operand, none, number, offset, bytesWith, Entry, entryAt}
+use Rattle.machine.specs.declared.Reach.{Reach}
 
 pub record Instruction : Type 0 where
   pub code : ℕ
   pub operand : ℕ
   pub next : ℕ
-  -- a byte of it is outside memory
-  pub outside : Bool
+  -- who carries it out, and what bars its bytes
+  pub reach : Reach
+  pub bar : Bar
 
 -- a 14-bit two's complement offset as a 32-bit number: the sign bit is worth 2^32 - 2^14 more
 abbrev pub extended : ℕ → ℕ
@@ -33,14 +33,15 @@ operandAt (number bytes) mem a = numberAt bytes mem (a + 1)
 operandAt offset mem a = targetAt mem a
 
 -- a code with its entry, at an address; addresses of instructions wrap
-abbrev pub instruction : ℕ → Entry → List ℕ → ℕ → Instruction
-instruction code e mem a =
+abbrev pub instruction : ℕ → Entry → Reach → List ℕ → ℕ → Instruction
+instruction code e reach mem a =
     record {
       code = code;
       operand = operandAt (e .operand) mem a;
       next = (a + bytesWith (e .operand)) % 2 ^ 32;
-      outside = ltb memoryLength (a + bytesWith (e .operand));
+      reach = reach;
+      bar = barOf reach a (bytesWith (e .operand));
     }
 
-unfoldable pub instructionAt : List ℕ → ℕ → Instruction
-instructionAt mem a = instruction (byteAt mem a) (entryAt (byteAt mem a)) mem a
+unfoldable pub instructionAt : Reach → List ℕ → ℕ → Instruction
+instructionAt reach mem a = instruction (byteAt mem a) (entryAt (byteAt mem a)) reach mem a

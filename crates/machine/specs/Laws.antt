@@ -1,11 +1,19 @@
+-- how many bytes an instruction has
+pub mod Lengths
+-- what bars some bytes
+pub mod Bars
 -- a table's rule at all of its entries
 pub mod Tables
 -- what a step that is carried out tells: no test held, and its row was put
 pub mod Passed
+-- what every completed instruction keeps, a run keeps
+pub mod Along
 -- clock cycles: from 1 to 42 for each instruction
 pub mod Costs
 -- what an instruction takes, by its code
 pub mod Prices
+-- code 3E is PAUSE
+pub mod Pausing
 -- the instructions on the linked stacks and the arithmetic on two cells stand at one code each
 pub mod Marks
 -- what every row keeps, kind by kind
@@ -28,3 +36,22 @@ pub mod Starred
 pub mod Carries
 -- a machine as an image starts it exists
 pub mod Started
+-- from what cannot be, anything
+pub mod Clash
+-- what is not barred may be touched
+pub mod Unbarred
+-- the numbers with which an instruction is refused
+pub mod Refusals
+-- a run goes on after a turn
+pub mod Onward
+-- the tasks after a turn, and what one turn leaves
+pub mod After
+pub mod Turns
+-- the next ready task
+pub mod Circular
+-- what a run of tasks takes, part by part
+pub mod TasksTaken
+-- machines and kept numbers, as tasks
+pub mod Pairs
+-- no second answer of a run of tasks
+pub mod OnlyTasks

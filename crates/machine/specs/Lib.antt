@@ -1,5 +1,7 @@
 -- the memory's length and the budget's limit
 pub mod Limits
+-- who may touch which byte
+pub mod Reach
 -- when a state is well formed, and the fresh machine
 pub mod State
 -- the codes: a table of what depends on a code alone
@@ -16,6 +18,8 @@ pub mod Checks
 pub mod Step
 -- a run under a budget
 pub mod Run
+-- four tasks, in turns
+pub mod Tasks
 -- the starred lines of the bench sheet
 pub mod Sheet
 -- where a THROW of non-zero goes on, and what S, R and P then are

@@ -4,5 +4,19 @@ use Prim.Native.Nat.{ℕ}
 abbrev pub memoryLength : ℕ
 memoryLength = 32768
 
+-- request P1: the shared bytes, and each task's part above them
+abbrev pub sharedLength : ℕ
+sharedLength = 16384
+
+abbrev pub partLength : ℕ
+partLength = 4096
+
+abbrev pub tasksCount : ℕ
+tasksCount = 4
+
+-- the most steps of a turn
+abbrev pub mostQuantum : ℕ
+mostQuantum = 1000
+
 abbrev pub mostBudget : ℕ
 mostBudget = 1000000

@@ -12,7 +12,7 @@ use Rattle.word.specs.Dispatch.{oneCellOf, twoCellsOf}
 use Rattle.word.specs.declared.Changed.{Changed}
 use Rattle.word.specs.declared.Outcome.{Outcome}
 use Rattle.word.specs.declared.Outcome.the-variants.{Single, Double, DivisorZero}
-use Rattle.machine.specs.Codes.{Shuffle, NOP, DROP, DUP, SWAP, OVER, NIP, ROT, PSP-AT, ZERO, DUP-NONZERO, Jump, JMP, BEQ, BRA, Link, >R, R-AT, R>, CATCH, RESETSP, THROW, JSL, JSR, EXIT, Op, SHUFFLE, JUMP, LINK, ONE, TWO, FETCH, STORE, LITERAL, entryAt}
+use Rattle.machine.specs.Codes.{Shuffle, NOP, DROP, DUP, SWAP, OVER, NIP, ROT, PSP-AT, ZERO, DUP-NONZERO, PAUSE, Jump, JMP, BEQ, BRA, Link, >R, R-AT, R>, CATCH, RESETSP, THROW, JSL, JSR, EXIT, Op, SHUFFLE, JUMP, LINK, ONE, TWO, FETCH, STORE, LITERAL, entryAt}
 use Rattle.machine.specs.Memory.{size, placeOf}
 use Rattle.machine.specs.Fetch.{Instruction}
 use Rattle.machine.specs.declared.Machine.{Machine}
@@ -38,10 +38,28 @@ pub record Row : Type 0 where
   pub flag : ℕ
   pub memory : List ℕ
   pub lack : Lack
+  -- the bytes of memory that it reads or writes: so many from an address
+  pub from : ℕ
+  pub touches : ℕ
 
 abbrev pub make : ℕ → List ℕ → Act → ℕ → ℕ → List ℕ → Lack → Row
 make keeps puts link goes flag memory lack =
-    record { keeps = keeps; puts = puts; link = link; goes = goes; flag = flag; memory = memory; lack = lack }
+    record { keeps = keeps; puts = puts; link = link; goes = goes; flag = flag; memory = memory; lack = lack; from = 0; touches = 0 }
+
+-- the same row, by an access to so many bytes from an address
+abbrev pub touching : ℕ → ℕ → Row → Row
+touching from touches row =
+    record {
+      keeps = row .keeps;
+      puts = row .puts;
+      link = row .link;
+      goes = row .goes;
+      flag = row .flag;
+      memory = row .memory;
+      lack = row .lack;
+      from = from;
+      touches = touches;
+    }
 
 -- the top cell, the one under it and the third
 abbrev pub top : Machine → ℕ
@@ -94,13 +112,14 @@ module _ (i : Instruction) (mem : List ℕ) (m : Machine) where
   twoRow DivisorZero = lacking aDivisor
 
   abbrev pub fetchRow : Width → Place → Row
-  fetchRow w (Memory a) = cellsRow (numberAt (size w) mem a ∷ [])
+  fetchRow w (Memory a) = touching a (size w) (cellsRow (numberAt (size w) mem a ∷ []))
   fetchRow w (Local k) = cellsRow (getD (localsInView m) k 0 ∷ [])
   fetchRow w (Cell k) = cellsRow (getD (cellsInView m) k 0 ∷ [])
   fetchRow w Nowhere = lacking aPlace
 
   abbrev pub storeRow : Width → Place → Row
-  storeRow w (Memory a) = make under [] still (i .next) (m .flag) (sets mem a (bytesOf (size w) (second m))) nothing
+  storeRow w (Memory a) =
+      touching a (size w) (make under [] still (i .next) (m .flag) (sets mem a (bytesOf (size w) (second m))) nothing)
   storeRow w (Local k) = jump (keep (set (localsInView m) k (second m)) (cellsInView m)) (i .next)
   storeRow w (Cell k) = jump (keep (localsInView m) (set (cellsInView m) k (second m))) (i .next)
   storeRow w Nowhere = lacking aPlace
@@ -117,6 +136,7 @@ module _ (i : Instruction) (mem : List ℕ) (m : Machine) where
   shuffled PSP-AT = m .p ∷ []
   shuffled ZERO = 0 ∷ []
   shuffled DUP-NONZERO = pick (eqb (top m) 0) (top m ∷ []) (top m ∷ top m ∷ [])
+  shuffled PAUSE = []
 
   -- where a jump goes
   abbrev pub target : Jump → ℕ

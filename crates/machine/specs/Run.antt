@@ -5,12 +5,16 @@ use Prim.Native.Nat.{ℕ, zero, suc, _+_, _*_, _≤_}
 use lib.Dec.{leb, eqb}
 use lib.ListN.{length}
 use Rattle.plain.specs.Answer.{notAsAsked}
-use Rattle.plain.specs.Choice.{both}
+use Rattle.plain.specs.Choice.{pick, both}
+use Rattle.numbers.specs.Bytes.{byteAt}
 use Rattle.machine.specs.Limits.{memoryLength, mostBudget}
+use Rattle.machine.specs.Reach.{alone}
 use Rattle.machine.specs.State.{wellFormed}
+use Rattle.machine.specs.Codes.{codePAUSE}
 use Rattle.machine.specs.Step.{refused, done, stepOf}
 use Rattle.machine.specs.declared.Machine.{Machine}
 use Rattle.machine.specs.declared.Ran.{Ran}
+use Rattle.machine.specs.declared.Reach.{Reach}
 
 -- what a run leaves: the memory, and what it hands back
 pub record After : Type 0 where
@@ -29,24 +33,32 @@ pub record CyclesBounded (a : After) : Type 0 where
   pub least : a .ran .steps .0 ≤ a .ran .cycles .0
   pub most : a .ran .cycles .0 ≤ 42 * a .ran .steps .0
 
--- the run from here: instructions left in the budget, then the steps and cycles counted so far.
--- Before each instruction a spent budget ends the run with 1; a completed instruction is one step.
-unfoldable pub runFrom : ℕ → List ℕ → Machine → ℕ → ℕ → After
-runFrom zero mem m steps cycles = ended 1 mem m steps cycles
-runFrom (suc left) mem m steps cycles =
-    elim (stepOf mem m) [
+-- the instruction at the program counter passes the turn: PAUSE, where turns are taken
+abbrev pub passes : Bool → List ℕ → Machine → Bool
+passes inTurns mem m = both inTurns (eqb (byteAt mem (m .counter)) codePAUSE)
+
+-- the run from here: under whose reach, whether turns are taken, instructions left in the budget, then the steps and cycles
+-- counted so far. Before each instruction a spent budget ends the run with 1; a completed instruction is one step; one that passes
+-- the turn ends the run as a spent budget does.
+unfoldable pub runFrom : Reach → Bool → ℕ → List ℕ → Machine → ℕ → ℕ → After
+runFrom reach inTurns zero mem m steps cycles = ended 1 mem m steps cycles
+runFrom reach inTurns (suc left) mem m steps cycles =
+    elim (stepOf reach mem m) [
       | refused number ↦ ended number mem m steps cycles
-      | done mem′ m′ cost ↦ runFrom left mem′ m′ (suc steps) (cycles + cost)
+      | done mem′ m′ cost ↦
+          pick (passes inTurns mem m) (ended 1 mem′ m′ (suc steps) (cycles + cost))
+          (runFrom reach inTurns left mem′ m′ (suc steps) (cycles + cost))
     ]
 
 -- memory length, budget and state as document 01 asks
 unfoldable pub acceptable : List ℕ → Machine → ℕ → Bool
 acceptable mem m budget = both (eqb (length mem) memoryLength) (both (leb budget mostBudget) (wellFormed m))
 
--- what is not as asked is refused before the first instruction, and nothing is altered
+-- a run of one machine, which has all of memory and takes no turns; what is not as asked is refused before the first instruction,
+-- and nothing is altered
 unfoldable pub runOf : List ℕ → Machine → ℕ → After
 runOf mem m budget =
     elim (acceptable mem m budget) [
-      | true ↦ runFrom budget mem m 0 0
+      | true ↦ runFrom alone false budget mem m 0 0
       | false ↦ ended notAsAsked mem m 0 0
     ]

@@ -11,6 +11,7 @@ use Rattle.machine.specs.Fetch.{Instruction, instructionAt}
 use Rattle.machine.specs.Rows.{Row, rowOf, top}
 use Rattle.machine.specs.Checks.{Test, tests}
 use Rattle.machine.specs.declared.Machine.{Machine}
+use Rattle.machine.specs.declared.Reach.{Reach}
 
 pub data Stepped : Type 0 where
   -- the answer number, 0 at the end of the program; nothing is altered
@@ -51,12 +52,12 @@ unfoldable pub carried : Instruction → List ℕ → Machine → Stepped
 carried i mem m = carry i (rowOf i mem m (entryAt (i .code) .op)) m
 
 -- the row of the instruction at the program counter, and the tests before it
-abbrev pub rowAt : List ℕ → Machine → Row
-rowAt mem m = rowOf (instructionAt mem (m .counter)) mem m (entryAt (instructionAt mem (m .counter) .code) .op)
+abbrev pub rowAt : Reach → List ℕ → Machine → Row
+rowAt reach mem m = rowOf (instructionAt reach mem (m .counter)) mem m (entryAt (instructionAt reach mem (m .counter) .code) .op)
 
-abbrev pub testsAt : List ℕ → Machine → List Test
-testsAt mem m = tests (instructionAt mem (m .counter)) m (rowAt mem m)
+abbrev pub testsAt : Reach → List ℕ → Machine → List Test
+testsAt reach mem m = tests (instructionAt reach mem (m .counter)) m (rowAt reach mem m)
 
--- the instruction at the program counter is carried out, or refused
-unfoldable pub stepOf : List ℕ → Machine → Stepped
-stepOf mem m = carried (instructionAt mem (m .counter)) mem m
+-- the instruction at the program counter is carried out under a reach, or refused
+unfoldable pub stepOf : Reach → List ℕ → Machine → Stepped
+stepOf reach mem m = carried (instructionAt reach mem (m .counter)) mem m

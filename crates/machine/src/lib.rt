@@ -2,6 +2,7 @@
 // What it does is defined in specs/ (Step.antt, Run.antt); the crate run carries it out.
 mod costs;
 mod state;
+mod turns;
 
 pub use costs::CYCLES;
 use links::Links;
@@ -27,6 +28,27 @@ pub struct Ran {
     pub steps: Steps,
     pub cycles: Cycles,
     pub machine: Machine,
+}
+
+// Who may touch which byte of memory: those below `shared`, and those from `own` to before `end`.
+pub struct Reach {
+    pub shared: usize,
+    pub own: usize,
+    pub end: usize,
+}
+
+// Four tasks: a machine for each, and the number that it keeps: that it is ready, or the answer with which it left.
+pub struct Tasks {
+    pub machines: [Machine; Tasks::COUNT],
+    pub kept: [usize; Tasks::COUNT],
+}
+
+// What a run of tasks answers, the steps and the cycles of all of them, and the tasks that it leaves.
+pub struct RanTasks {
+    pub answer: u32,
+    pub steps: Steps,
+    pub cycles: Cycles,
+    pub tasks: Tasks,
 }
 
 // How wide a memory access is.

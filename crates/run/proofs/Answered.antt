@@ -6,6 +6,7 @@ use Prim.Native.Nat.{ℕ}
 use native.Mathlib.Omega.{arith}
 use Rattle.plain.specs.Answer.{Answer, refuses, gives}
 use Rattle.plain.specs.Choice.{pick}
+use Rattle.machine.specs.Codes.{codePAUSE}
 use Rattle.machine.specs.Fetch.{Instruction}
 use Rattle.machine.specs.Step.{Stepped, refused, carried}
 use Rattle.machine.specs.declared.Machine.{Machine}
@@ -13,6 +14,8 @@ use Rattle.run.specs.Answers.{stepBy}
 
 pub record Acts {A : Type 0} (i : Instruction) (mem : List ℕ) (m : Machine) (said : Answer A) (after : A → Stepped) : Type 0 where
   pub is : carried i mem m ≡ stepBy said after
+  -- it is no PAUSE
+  pub on : i .code ≡ codePAUSE → ⊥
 
 module _ {A : Type 0} {i : Instruction} {mem : List ℕ} {m : Machine} {said : Answer A} {after : A → Stepped} (acts : Acts i mem m said after) where
   pub by-gift : {values : A} → said ≡ gives values → carried i mem m ≡ after values
@@ -28,6 +31,12 @@ apart z = absurd (omega arith)
 -- an answer that is known at one of its cases says what the case says
 pub told : {E A : Type 0} (says : E → Answer A) {answer known : E} {said : Answer A} → says answer ≡ said → answer ≡ known → said ≡ says known
 told says e h = sym e ∙ ap says h
+
+-- a last check before what its answer gives
+pub last-check : {A : Type 0} (a : Bool) (x : ℕ) (values : A) (after : A → Stepped) →
+    pick a (refused x) (after values) ≡ stepBy (pick a (refuses x) (gives values)) after
+last-check true x values after = refl
+last-check false x values after = refl
 
 -- checks one after another are tests one after another
 pub one-check : (a : Bool) (x : ℕ) (result : Stepped) →

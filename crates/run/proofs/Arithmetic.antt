@@ -14,6 +14,7 @@ use Rattle.word.specs.declared.TwoCells.{TwoCells}
 use Rattle.word.specs.declared.Outcome.{Outcome}
 use Rattle.word.specs.declared.Outcome.the-variants.{Single, Double, DivisorZero}
 use Rattle.machine.specs.Rows.{rowOf}
+use Rattle.machine.specs.Reach.{barOf}
 use Rattle.machine.specs.Codes.{ONE, TWO}
 use Rattle.machine.specs.Step.{carried}
 use Rattle.run.specs.Promises.{Meets}
@@ -24,7 +25,7 @@ module _ (operand next : ℕ) (cells : List ℕ) (p flag : ℕ) (op : OneCell) w
   unfolding rowOf
   one-few =
       few (ONE op) 1 operand next cells p flag (p - 1) (oneCellOf op (getD cells (p - 1) 0) flag .value ∷ []) next (oneCellOf op (getD cells (p - 1) 0) flag .flag)
-      (λ code e mem rest. rw (e .asks))
+      (λ code e reach mem rest. rw (e .asks))
 
   pub one-went : (c : Changed) → c ≡ oneCellOf op (getD cells (p - 1) 0) flag → 1 ≤ p → p ≤ cellsDepth →
       Meets (ONE op) 1 operand next cells p flag (set cells (p - 1) (c .value)) (gives (record { p = p; flag = c .flag; counter = next }))
@@ -35,22 +36,22 @@ module _ (operand next : ℕ) (cells : List ℕ) (p flag : ℕ) (op : OneCell) w
       Meets (ONE op) 1 operand next cells p flag (set cells (p - 1) (x .value)) (gives (record { p = p; flag = x .flag; counter = next })))
       same
       (went (ONE op) 1 operand next cells p flag (p - 1) (oneCellOf op (getD cells (p - 1) 0) flag .value ∷ []) next (oneCellOf op (getD cells (p - 1) 0) flag .flag)
-      (λ code e mem rest. rw (e .asks))
+      (λ code e reach mem rest. rw (e .asks))
       (set cells (p - 1) (oneCellOf op (getD cells (p - 1) 0) flag .value)) p h top refl (omega arith))
 
 module _ (operand next : ℕ) (cells : List ℕ) (p flag : ℕ) (op : TwoCells) where
   -- too few cells, whatever the outcome would be
   few-of : (o : Outcome) → twoCellsOf op (getD cells (p - 2) 0) (getD cells (p - 1) 0) flag ≡ o → p < 2 → Meets (TWO op) 2 operand next cells p flag cells (refuses 5)
-  unfolding rowOf carried
+  unfolding rowOf carried barOf
   few-of (Single value after) same h =
       few (TWO op) 2 operand next cells p flag (p - 2) (value ∷ []) next after
-      (λ code e mem rest. rw (same, e .asks))
+      (λ code e reach mem rest. rw (same, e .asks))
       h
   few-of (Double lower upper after) same h =
       few (TWO op) 2 operand next cells p flag (p - 2) (lower ∷ upper ∷ []) next after
-      (λ code e mem rest. rw (same, e .asks))
+      (λ code e reach mem rest. rw (same, e .asks))
       h
-  few-of DivisorZero same h = λ code e mem rest. (rw (e .names, same, e .known, e .asks, lt-ltb p 2 h), refl)
+  few-of DivisorZero same h = λ code e reach mem rest. (rw (e .names, same, e .known, e .asks, lt-ltb p 2 h), refl)
 
   pub two-few : p < 2 → Meets (TWO op) 2 operand next cells p flag cells (refuses 5)
   two-few = few-of (twoCellsOf op (getD cells (p - 2) 0) (getD cells (p - 1) 0) flag) refl
@@ -60,7 +61,7 @@ module _ (operand next : ℕ) (cells : List ℕ) (p flag : ℕ) (op : TwoCells) 
   unfolding rowOf
   two-single value after same h top =
       went (TWO op) 2 operand next cells p flag (p - 2) (value ∷ []) next after
-      (λ code e mem rest. rw (same, e .asks))
+      (λ code e reach mem rest. rw (same, e .asks))
       (set cells (p - 2) value) (p - 1) h (omega arith) refl (omega arith)
 
   pub two-double : (lower upper after : ℕ) → twoCellsOf op (getD cells (p - 2) 0) (getD cells (p - 1) 0) flag ≡ Double lower upper after → 2 ≤ p → p ≤ cellsDepth →
@@ -69,13 +70,13 @@ module _ (operand next : ℕ) (cells : List ℕ) (p flag : ℕ) (op : TwoCells) 
   unfolding rowOf
   two-double lower upper after same h top =
       went (TWO op) 2 operand next cells p flag (p - 2) (lower ∷ upper ∷ []) next after
-      (λ code e mem rest. rw (same, e .asks))
+      (λ code e reach mem rest. rw (same, e .asks))
       (set (set cells (p - 2) lower) (p - 1) upper) p h top
       (ap (λ (n : ℕ). set (set cells (p - 2) lower) n upper) (omega arith)) (omega arith)
 
   -- the divisor is zero: test 13
   pub two-zero : twoCellsOf op (getD cells (p - 2) 0) (getD cells (p - 1) 0) flag ≡ DivisorZero → 2 ≤ p → p ≤ cellsDepth → Meets (TWO op) 2 operand next cells p flag cells (refuses 13)
-  unfolding rowOf carried
-  two-zero same h top code e mem rest =
+  unfolding rowOf carried barOf
+  two-zero same h top code e reach mem rest =
       let room : p - 2 + 0 ≤ cellsDepth = omega arith in
       (rw (e .names, same, e .known, e .asks, le-ltb p 2 h, le-ltb cellsDepth (p - 2 + 0) room), refl)

@@ -18,28 +18,29 @@ use Rattle.links.specs.Actions.{calledFrame}
 use Rattle.links.specs.Linked.{noFrame, noLevel, copyOfR, copyOfS, copyOfP}
 use Rattle.links.specs.declared.Frame.{Frame}
 use Rattle.links.specs.declared.Level.{Level}
-use Rattle.machine.specs.Codes.{entryAt, table, cyclesOf, LINK, THROW, FETCH, STORE}
+use Rattle.machine.specs.Codes.{entryAt, table, cyclesOf, codePAUSE, LINK, THROW, FETCH, STORE}
+use Rattle.machine.specs.Reach.{barOf, isForeign}
 use Rattle.machine.specs.Memory.{size, placeOf}
 use Rattle.machine.specs.Rows.{nothing, aReturnCell, aPlace, aDivisor, Lack-discrete, rowOf}
-use Rattle.machine.specs.Step.{Stepped, done, costOf, carried}
+use Rattle.machine.specs.Step.{Stepped, refused, done, costOf, carried}
 use Rattle.machine.specs.Laws.Prices.{by-code}
 use Rattle.machine.specs.declared.Machine.{Machine}
+use Rattle.machine.specs.declared.Reach.{Reach}
 use Rattle.machine.specs.declared.Width.{Width}
 use Rattle.machine.specs.declared.Place.{Place}
 use Rattle.machine.specs.declared.Place.the-variants.{Memory, Local, Cell, Nowhere}
-use Rattle.run.specs.Accesses.{widthOf, reachOf}
+use Rattle.reach.specs.Spots.{widthOf, spotOf}
+use Rattle.run.specs.Accesses.{reachOf}
 use Rattle.run.specs.Answers.{stepBy}
-use Rattle.run.specs.Machines.{insideMemory}
+use Rattle.run.specs.Machines.{inReach}
 use Rattle.run.specs.Promises.{CarriesOut, Spells, Unaltered}
 use Rattle.run.specs.Registers.{machineIn, movedTo, haltedBy}
 use Rattle.run.specs.Verdicts.{pushable, readable, callable, catchable, throwable, exitable, sAfterPop, eAfterDropOf, eAfterPop}
 use Rattle.run.specs.declared.Registers.{Registers}
-use Rattle.run.specs.declared.Spot.{Spot}
-use Rattle.run.specs.declared.Spot.the-variants as spot
 use Rattle.run.specs.declared.Stack.{Stack}
 use Rattle.run.specs.declared.Throw.{Throw}
 use Rattle.run.specs.declared.Throw.the-variants.{Zero, Code}
-use Rattle.run.proofs.Answered.{Acts, one-check, two-checks, three-checks, four-checks}
+use Rattle.run.proofs.Answered.{Acts, last-check, one-check, two-checks, three-checks, four-checks}
 use Rattle.run.proofs.Drops.{positive, drop-same, pop-s, pop-e}
 use Rattle.run.proofs.Rounds.{Round, Found, ends}
 
@@ -63,11 +64,11 @@ throw-spelled : (code : ℕ) → code ≡ 0x0D → Spells code (LINK THROW) 1
 unfolding entryAt table
 throw-spelled code e = record { known = rw e; names = rw e; asks = rw e }
 
--- neither is THROW, whose cost is not always the table's
-no-throw : {a b d code : ℕ} → OneOf a b d code → (a ≡ 0x0D → ⊥) → (b ≡ 0x0D → ⊥) → (d ≡ 0x0D → ⊥) → code ≡ 0x0D → ⊥
-no-throw (inl e) x y z h = x (sym e ∙ h)
-no-throw (inr (inl e)) x y z h = y (sym e ∙ h)
-no-throw (inr (inr e)) x y z h = z (sym e ∙ h)
+-- none of them is another code
+none-is : {a b d code other : ℕ} → OneOf a b d code → (a ≡ other → ⊥) → (b ≡ other → ⊥) → (d ≡ other → ⊥) → code ≡ other → ⊥
+none-is (inl e) x y z h = x (sym e ∙ h)
+none-is (inr (inl e)) x y z h = y (sym e ∙ h)
+none-is (inr (inr e)) x y z h = z (sym e ∙ h)
 
 -- R@ and R> lack a return cell where there is none, and nothing else
 returnless : (b : Bool) → decided (Lack-discrete (pick b aReturnCell nothing) aReturnCell) ≡ b
@@ -82,14 +83,14 @@ divided : (b : Bool) → decided (Lack-discrete (pick b aReturnCell nothing) aDi
 divided true = refl
 divided false = refl
 
-module _ {mem₀ : List ℕ} {m₀ : Machine} {budget : ℕ} {mem cells returns : List ℕ} {frames : List Frame} {levels : List Level} {g : Registers}
-    {code operand next : ℕ} (found : Found mem₀ m₀ budget mem cells returns frames levels g code operand next)
+module _ {reach : Reach} {inTurns : Bool} {mem₀ : List ℕ} {m₀ : Machine} {budget : ℕ} {mem cells returns : List ℕ} {frames : List Frame} {levels : List Level} {g : Registers}
+    {code operand next : ℕ} (found : Found reach inTurns mem₀ m₀ budget mem cells returns frames levels g code operand next)
   where
     abbrev here : Machine
     here = machineIn cells returns frames levels g
 
     abbrev Does : {A : Type 0} → Answer A → (A → Stepped) → Type 0
-    Does said after = Acts (insideMemory code operand next) mem here said after
+    Does said after = Acts (inReach reach code operand next) mem here said after
 
     -- an instruction that leaves no cells behind has room
     room : (keeps : ℕ) → keeps ≤ g .p → ltb cellsDepth (keeps + 0) ≡ false
@@ -101,10 +102,10 @@ module _ {mem₀ : List ℕ} {m₀ : Machine} {budget : ℕ} {mem cells returns 
     pub push-acts : code ≡ 0x07 →
         Does (pushable (g .p) (g .r))
         (λ u. done mem (machineIn cells (set returns (g .r) (getD cells (g .p - 1) 0)) frames levels (movedTo g (g .p - 1) (g .r + 1) (g .s) (g .e) next (g .flag))) (cyclesOf code))
-    unfolding carried rowOf entryAt table pushable
+    unfolding carried rowOf entryAt table pushable barOf
     push-acts key =
         let depth : g .p - 1 + 0 ≡ g .p - 1 = omega arith in
-        record { is = rw (key, room (g .p - 1) (omega arith), depth, add-one (g .r)) (two-checks (ltb (g .p) 1) (leb returnsDepth (g .r)) 5 9 _) }
+        record { on = λ h. omega (arith, key); is = rw (key, room (g .p - 1) (omega arith), depth, add-one (g .r)) (two-checks (ltb (g .p) 1) (leb returnsDepth (g .r)) 5 9 _) }
 
     -- R@ and R>: the test of room is the definition's
     room-test : ltb cellsDepth (g .p - 0 + 1) ≡ leb cellsDepth (g .p)
@@ -115,21 +116,22 @@ module _ {mem₀ : List ℕ} {m₀ : Machine} {budget : ℕ} {mem cells returns 
     pub copy-acts : code ≡ 0x08 →
         Does (readable (g .p) (g .r))
         (λ u. done mem (machineIn (set cells (g .p) (getD returns (g .r - 1) 0)) returns frames levels (movedTo g (g .p + 1) (g .r) (g .s) (g .e) next (g .flag))) (cyclesOf code))
-    unfolding carried rowOf entryAt table readable
+    unfolding carried rowOf entryAt table readable barOf
     copy-acts key =
         let none : 0 ≤ g .p = omega arith in
         let same : g .p - 0 ≡ g .p = omega arith in
-        record { is = rw (key, le-ltb (g .p) 0 none, returnless (eqb (g .r) 0), placed (eqb (g .r) 0), divided (eqb (g .r) 0), room-test, same) (two-checks (eqb (g .r) 0) (leb cellsDepth (g .p)) 6 8 _) }
+        record { on = λ h. omega (arith, key); is = rw (key, le-ltb (g .p) 0 none, returnless (eqb (g .r) 0), placed (eqb (g .r) 0), divided (eqb (g .r) 0), room-test, same) (two-checks (eqb (g .r) 0) (leb cellsDepth (g .p)) 6 8 _) }
 
     pub pop-acts : code ≡ 0x09 → {lower left : ℕ} → lower ≡ sAfterPop (g .r - 1) (g .s) (copyOfR frames (g .s)) →
         left ≡ eAfterPop lower (g .s) (g .e) (copyOfS levels (g .e)) →
         Does (readable (g .p) (g .r))
         (λ u. done mem (machineIn (set cells (g .p) (getD returns (g .r - 1) 0)) returns frames levels (movedTo g (g .p + 1) (g .r - 1) lower left next (g .flag))) (cyclesOf code))
-    unfolding carried rowOf entryAt table readable
+    unfolding carried rowOf entryAt table readable barOf
     pop-acts key es ee =
         let none : 0 ≤ g .p = omega arith in
         let same : g .p - 0 ≡ g .p = omega arith in
         record {
+          on = λ h. omega (arith, key);
           is =
               rw (key, le-ltb (g .p) 0 none, returnless (eqb (g .r) 0), placed (eqb (g .r) 0), divided (eqb (g .r) 0), room-test, same, ee, es, pop-e (g .r) (g .s) frames (g .e) levels, pop-s (g .r) (g .s) frames)
               (two-checks (eqb (g .r) 0) (leb cellsDepth (g .p)) 6 8 _);
@@ -144,10 +146,11 @@ module _ {mem₀ : List ℕ} {m₀ : Machine} {budget : ℕ} {mem cells returns 
         (set levels (g .e + 1) (record { cells = getD levels (g .e) noLevel .cells; s = g .s; p = g .p - 1; address = address }))
         (movedTo g (g .p - 1) (g .r + 1) (g .s + 1) (g .e + 1) (getD cells (g .p - 1) 0) (g .flag)))
         (cyclesOf code))
-    unfolding carried rowOf entryAt table catchable
+    unfolding carried rowOf entryAt table catchable barOf
     catch-acts key ea =
         let depth : g .p - 1 + 0 ≡ g .p - 1 = omega arith in
         record {
+          on = λ h. omega (arith, key);
           is =
               rw (key, ea, room (g .p - 1) (omega arith), depth, add-one (g .r), add-one (g .s), add-one (g .e))
               (four-checks (ltb (g .p) 1) (leb returnsDepth (g .r)) (leb subroutinesDepth (g .s)) (leb exceptionsDepth (g .e)) 5 9 10 11 _);
@@ -156,10 +159,10 @@ module _ {mem₀ : List ℕ} {m₀ : Machine} {budget : ℕ} {mem cells returns 
     -- RESETSP
     pub reset-acts : code ≡ 0x0C →
         Does {A = Unit {0}} (gives tt) (λ u. done mem (machineIn cells returns frames levels (movedTo g 0 0 0 0 next (g .flag))) (cyclesOf code))
-    unfolding carried rowOf entryAt table
+    unfolding carried rowOf entryAt table barOf
     reset-acts key =
         let none : 0 ≤ g .p = omega arith in
-        record { is = rw (key, le-ltb (g .p) 0 none) }
+        record { on = λ h. omega (arith, key); is = rw (key, le-ltb (g .p) 0 none) }
 
     -- THROW of 0, and of a code to the top exception level
     abbrev pub thrownBy : Throw → Stepped
@@ -172,14 +175,14 @@ module _ {mem₀ : List ℕ} {m₀ : Machine} {budget : ℕ} {mem cells returns 
         (cyclesOf code)
 
     pub throw-acts : code ≡ 0x0D → Does (throwable cells (g .p) (g .e)) thrownBy
-    unfolding carried rowOf throwable
-    throw-acts key = record { is = go (ltb (g .p) 1) (eqb (getD cells (g .p - 1) 0) 0) (eqb (g .e) 0) refl refl refl }
+    unfolding carried rowOf throwable barOf
+    throw-acts key = record { on = λ h. omega (arith, key); is = go (ltb (g .p) 1) (eqb (getD cells (g .p - 1) 0) 0) (eqb (g .e) 0) refl refl refl }
       where
         e : Spells code (LINK THROW) 1
         e = throw-spelled code key
 
         go : (a b z : Bool) → ltb (g .p) 1 ≡ a → eqb (getD cells (g .p - 1) 0) 0 ≡ b → eqb (g .e) 0 ≡ z →
-            carried (insideMemory code operand next) mem here ≡ stepBy (throwable cells (g .p) (g .e)) thrownBy
+            carried (inReach reach code operand next) mem here ≡ stepBy (throwable cells (g .p) (g .e)) thrownBy
         go true true z few zero none = rw (e .names, zero, e .known, e .asks, few)
         go true false z few zero none = rw (e .names, zero, e .known, e .asks, few)
         go false true z few zero none =
@@ -195,12 +198,12 @@ module _ {mem₀ : List ℕ} {m₀ : Machine} {budget : ℕ} {mem cells returns 
     pub exit-acts : code ≡ 0x3D → {left : ℕ} → left ≡ eAfterDropOf (g .s - 1) (g .e) (copyOfS levels (g .e)) →
         Does (exitable (g .s))
         (λ u. done mem (machineIn cells returns frames levels (movedTo g (g .p) (copyOfR frames (g .s)) (g .s - 1) left (getD frames (g .s) noFrame .address) (g .flag))) (cyclesOf code))
-    unfolding carried rowOf entryAt table exitable
+    unfolding carried rowOf entryAt table exitable barOf
     exit-acts key ee =
         let none : 0 ≤ g .p = omega arith in
         let depth : g .p - 0 + 0 ≡ g .p = omega arith in
         let same : g .p - 0 ≤ g .p = omega arith in
-        record { is = rw (key, le-ltb (g .p) 0 none, room (g .p - 0) same, depth, ee, drop-same (g .s - 1) (g .e) levels) (one-check (eqb (g .s) 0) 0 _) }
+        record { on = λ h. omega (arith, key); is = rw (key, le-ltb (g .p) 0 none, room (g .p - 0) same, depth, ee, drop-same (g .s - 1) (g .e) levels) (one-check (eqb (g .s) 0) 0 _) }
 
     -- JSL and JSR
     abbrev pub calledTo : ℕ → ℕ → Stepped
@@ -208,39 +211,42 @@ module _ {mem₀ : List ℕ} {m₀ : Machine} {budget : ℕ} {mem cells returns 
         done mem (machineIn cells (set returns (g .r) next) (set frames (g .s + 1) (calledFrame (g .r) next)) levels (movedTo g p (g .r + 1) (g .s + 1) (g .e) to (g .flag))) (cyclesOf code)
 
     pub call-acts : code ≡ 0x38 → Does (callable 0 (g .p) (g .r) (g .s)) (λ u. calledTo (g .p) operand)
-    unfolding carried rowOf entryAt table callable
+    unfolding carried rowOf entryAt table callable barOf
     call-acts key =
         let none : 0 ≤ g .p = omega arith in
         let depth : g .p - 0 + 0 ≡ g .p = omega arith in
         record {
+          on = λ h. omega (arith, key);
           is =
               rw (key, le-ltb (g .p) 0 none, room (g .p - 0) (omega arith), depth, add-one (g .r), add-one (g .s))
               (two-checks (leb returnsDepth (g .r)) (leb subroutinesDepth (g .s)) 9 10 _);
         }
 
     pub call-top-acts : code ≡ 0x39 → Does (callable 1 (g .p) (g .r) (g .s)) (λ u. calledTo (g .p - 1) (getD cells (g .p - 1) 0))
-    unfolding carried rowOf entryAt table callable
+    unfolding carried rowOf entryAt table callable barOf
     call-top-acts key =
         let depth : g .p - 1 + 0 ≡ g .p - 1 = omega arith in
         record {
+          on = λ h. omega (arith, key);
           is =
               rw (key, room (g .p - 1) (omega arith), depth, add-one (g .r), add-one (g .s))
               (three-checks (ltb (g .p) 1) (leb returnsDepth (g .r)) (leb subroutinesDepth (g .s)) 5 9 10 _);
         }
 
     -- only THROW's cost is not the table's
-    cost : (code ≡ 0x0D → ⊥) → costOf (insideMemory code operand next) here ≡ cyclesOf code
-    cost other = by-code (insideMemory code operand next) here (λ h z. other h)
+    cost : (code ≡ 0x0D → ⊥) → costOf (inReach reach code operand next) here ≡ cyclesOf code
+    cost other = by-code (inReach reach code operand next) here (λ h z. other h)
 
     -- FETCH: the top cell becomes what is found
     abbrev pub fetchedAs : ℕ → Stepped
     fetchedAs value =
         done mem (machineIn (set cells (g .p - 1) value) returns frames levels (movedTo g (g .p) (g .r) (g .s) (g .e) next (g .flag))) (cyclesOf code)
 
-    abbrev pub fetchedBy : Width → Spot → Stepped
-    fetchedBy w (spot.Memory a) = fetchedAs (numberAt (size w) mem a)
-    fetchedBy w (spot.Local k) = fetchedAs (getD (getD frames (g .s) noFrame .locals) k 0)
-    fetchedBy w (spot.Cell k) = fetchedAs (getD (getD levels (g .e) noLevel .cells) k 0)
+    abbrev pub fetchedBy : Width → Place → Stepped
+    fetchedBy w (Memory a) = fetchedAs (numberAt (size w) mem a)
+    fetchedBy w (Local k) = fetchedAs (getD (getD frames (g .s) noFrame .locals) k 0)
+    fetchedBy w (Cell k) = fetchedAs (getD (getD levels (g .e) noLevel .cells) k 0)
+    fetchedBy w Nowhere = refused 12
 
     -- where there is a cell, one put in its place leaves the depth
     depth : ltb (g .p) 1 ≡ false → g .p - 1 + 1 ≡ g .p
@@ -251,23 +257,25 @@ module _ {mem₀ : List ℕ} {m₀ : Machine} {budget : ℕ} {mem cells returns 
         let top = found .round .p-within in
         le-ltb cellsDepth (g .p - 1 + 1) (omega (arith, depth few))
 
-    pub fetch-acts : OneOf 0x2D 0x2F 0x31 code → Does (reachOf 1 (widthOf code) cells (g .p)) (fetchedBy (widthOf code))
-    unfolding carried rowOf reachOf
-    fetch-acts key = record { is = go (ltb (g .p) 1) refl (placeOf (widthOf code) (getD cells (g .p - 1) 0)) refl }
+    pub fetch-acts : OneOf 0x2D 0x2F 0x31 code → Does (reachOf reach 1 (widthOf code) cells (g .p)) (fetchedBy (widthOf code))
+    unfolding carried rowOf reachOf spotOf barOf
+    fetch-acts key = record { on = none-is key (λ h. omega arith) (λ h. omega arith) (λ h. omega arith); is = go (ltb (g .p) 1) refl (placeOf (widthOf code) (getD cells (g .p - 1) 0)) refl }
       where
         e : Spells code (FETCH (widthOf code)) 1
         e = fetch-spelled code key
 
-        paid : costOf (insideMemory code operand next) here ≡ cyclesOf code
-        paid = cost (no-throw key (λ h. omega arith) (λ h. omega arith) (λ h. omega arith))
+        paid : costOf (inReach reach code operand next) here ≡ cyclesOf code
+        paid = cost (none-is key (λ h. omega arith) (λ h. omega arith) (λ h. omega arith))
 
         go : (a : Bool) → ltb (g .p) 1 ≡ a → (place : Place) → placeOf (widthOf code) (getD cells (g .p - 1) 0) ≡ place →
-            carried (insideMemory code operand next) mem here ≡ stepBy (reachOf 1 (widthOf code) cells (g .p)) (fetchedBy (widthOf code))
+            carried (inReach reach code operand next) mem here ≡ stepBy (reachOf reach 1 (widthOf code) cells (g .p)) (fetchedBy (widthOf code))
         go true few (Memory a) at = rw (e .names, at, e .known, e .asks, few)
         go true few (Local k) at = rw (e .names, at, e .known, e .asks, few)
         go true few (Cell k) at = rw (e .names, at, e .known, e .asks, few)
         go true few Nowhere at = rw (e .names, at, e .known, e .asks, few)
-        go false few (Memory a) at = rw (e .names, at, e .known, e .asks, few, full few, depth few, paid)
+        go false few (Memory a) at =
+            rw (e .names, at, e .known, e .asks, few, full few, depth few, paid)
+            (last-check (isForeign (barOf reach a (size (widthOf code)))) 17 (Memory a) (fetchedBy (widthOf code)))
         go false few (Local k) at = rw (e .names, at, e .known, e .asks, few, full few, depth few, paid)
         go false few (Cell k) at = rw (e .names, at, e .known, e .asks, few, full few, depth few, paid)
         go false few Nowhere at = rw (e .names, at, e .known, e .asks, few, room (g .p - 1) (omega arith))
@@ -276,29 +284,30 @@ module _ {mem₀ : List ℕ} {m₀ : Machine} {budget : ℕ} {mem cells returns 
     abbrev pub lowered : Registers
     lowered = movedTo g (g .p - 2) (g .r) (g .s) (g .e) next (g .flag)
 
-    abbrev pub storedBy : Width → Spot → Stepped
-    storedBy w (spot.Memory a) = done (sets mem a (bytesOf (size w) (getD cells (g .p - 2) 0))) (machineIn cells returns frames levels lowered) (cyclesOf code)
-    storedBy w (spot.Local k) =
+    abbrev pub storedBy : Width → Place → Stepped
+    storedBy w (Memory a) = done (sets mem a (bytesOf (size w) (getD cells (g .p - 2) 0))) (machineIn cells returns frames levels lowered) (cyclesOf code)
+    storedBy w (Local k) =
         let frame = getD frames (g .s) noFrame in
         let after : Frame = record { locals = set (frame .locals) k (getD cells (g .p - 2) 0); r = frame .r; address = frame .address } in
         done mem (machineIn cells returns (set frames (g .s) after) levels lowered) (cyclesOf code)
-    storedBy w (spot.Cell k) =
+    storedBy w (Cell k) =
         let level = getD levels (g .e) noLevel in
         let after : Level = record { cells = set (level .cells) k (getD cells (g .p - 2) 0); s = level .s; p = level .p; address = level .address } in
         done mem (machineIn cells returns frames (set levels (g .e) after) lowered) (cyclesOf code)
+    storedBy w Nowhere = refused 12
 
     pub written-there : (w : Width) (a : ℕ) {mem′ : List ℕ} → mem′ ≡ sets mem a (bytesOf (size w) (getD cells (g .p - 2) 0)) →
-        storedBy w (spot.Memory a) ≡ done mem′ (machineIn cells returns frames levels lowered) (cyclesOf code)
+        storedBy w (Memory a) ≡ done mem′ (machineIn cells returns frames levels lowered) (cyclesOf code)
     written-there w a e = ap (λ (l : List ℕ). done l (machineIn cells returns frames levels lowered) (cyclesOf code)) (sym e)
 
     pub in-frame : (w : Width) (k : ℕ) {f : Frame} →
         (let frame = getD frames (g .s) noFrame in f ≡ record { locals = set (frame .locals) k (getD cells (g .p - 2) 0); r = frame .r; address = frame .address }) →
-        storedBy w (spot.Local k) ≡ done mem (machineIn cells returns (set frames (g .s) f) levels lowered) (cyclesOf code)
+        storedBy w (Local k) ≡ done mem (machineIn cells returns (set frames (g .s) f) levels lowered) (cyclesOf code)
     in-frame w k e = ap (λ (f : Frame). done mem (machineIn cells returns (set frames (g .s) f) levels lowered) (cyclesOf code)) (sym e)
 
     pub in-level : (w : Width) (k : ℕ) {l : Level} →
         (let level = getD levels (g .e) noLevel in l ≡ record { cells = set (level .cells) k (getD cells (g .p - 2) 0); s = level .s; p = level .p; address = level .address }) →
-        storedBy w (spot.Cell k) ≡ done mem (machineIn cells returns frames (set levels (g .e) l) lowered) (cyclesOf code)
+        storedBy w (Cell k) ≡ done mem (machineIn cells returns frames (set levels (g .e) l) lowered) (cyclesOf code)
     in-level w k e = ap (λ (l : Level). done mem (machineIn cells returns frames (set levels (g .e) l) lowered) (cyclesOf code)) (sym e)
 
     -- a store to a local leaves the exception cells as they are, and the other way round
@@ -308,15 +317,15 @@ module _ {mem₀ : List ℕ} {m₀ : Machine} {budget : ℕ} {mem cells returns 
     same-frame : set frames (g .s) (getD frames (g .s) noFrame) ≡ frames
     same-frame = set-getD frames (g .s) noFrame
 
-    pub store-acts : OneOf 0x2E 0x30 0x32 code → Does (reachOf 2 (widthOf code) cells (g .p)) (storedBy (widthOf code))
-    unfolding carried rowOf reachOf
-    store-acts key = record { is = go (ltb (g .p) 2) refl (placeOf (widthOf code) (getD cells (g .p - 1) 0)) refl }
+    pub store-acts : OneOf 0x2E 0x30 0x32 code → Does (reachOf reach 2 (widthOf code) cells (g .p)) (storedBy (widthOf code))
+    unfolding carried rowOf reachOf spotOf barOf
+    store-acts key = record { on = none-is key (λ h. omega arith) (λ h. omega arith) (λ h. omega arith); is = go (ltb (g .p) 2) refl (placeOf (widthOf code) (getD cells (g .p - 1) 0)) refl }
       where
         e : Spells code (STORE (widthOf code)) 2
         e = store-spelled code key
 
-        paid : costOf (insideMemory code operand next) here ≡ cyclesOf code
-        paid = cost (no-throw key (λ h. omega arith) (λ h. omega arith) (λ h. omega arith))
+        paid : costOf (inReach reach code operand next) here ≡ cyclesOf code
+        paid = cost (none-is key (λ h. omega arith) (λ h. omega arith) (λ h. omega arith))
 
         full-two : ltb cellsDepth (g .p - 2 + 0) ≡ false
         full-two = room (g .p - 2) (omega arith)
@@ -325,12 +334,14 @@ module _ {mem₀ : List ℕ} {m₀ : Machine} {budget : ℕ} {mem cells returns 
         depth-two = omega arith
 
         go : (a : Bool) → ltb (g .p) 2 ≡ a → (place : Place) → placeOf (widthOf code) (getD cells (g .p - 1) 0) ≡ place →
-            carried (insideMemory code operand next) mem here ≡ stepBy (reachOf 2 (widthOf code) cells (g .p)) (storedBy (widthOf code))
+            carried (inReach reach code operand next) mem here ≡ stepBy (reachOf reach 2 (widthOf code) cells (g .p)) (storedBy (widthOf code))
         go true few (Memory a) at = rw (e .names, at, e .known, e .asks, few)
         go true few (Local k) at = rw (e .names, at, e .known, e .asks, few)
         go true few (Cell k) at = rw (e .names, at, e .known, e .asks, few)
         go true few Nowhere at = rw (e .names, at, e .known, e .asks, few)
-        go false few (Memory a) at = rw (e .names, at, e .known, e .asks, few, full-two, depth-two, paid)
+        go false few (Memory a) at =
+            rw (e .names, at, e .known, e .asks, few, full-two, depth-two, paid)
+            (last-check (isForeign (barOf reach a (size (widthOf code)))) 17 (Memory a) (storedBy (widthOf code)))
         go false few (Local k) at = rw (e .names, at, e .known, e .asks, few, full-two, depth-two, paid, same-level)
         go false few (Cell k) at = rw (e .names, at, e .known, e .asks, few, full-two, depth-two, paid, same-frame)
         go false few Nowhere at = rw (e .names, at, e .known, e .asks, few, full-two)
@@ -340,14 +351,24 @@ module _ {mem₀ : List ℕ} {m₀ : Machine} {budget : ℕ} {mem cells returns 
     wentTo cells′ price at =
         done mem (machineIn cells′ returns frames levels (movedTo g (at .p) (g .r) (g .s) (g .e) (at .counter) (at .flag))) price
 
-    pub cells-acts : (code ≡ 0x0D → ⊥) → {cells′ : List ℕ} {said : Answer Stack} → CarriesOut code operand next cells (g .p) (g .flag) cells′ said →
+    pub cells-acts : (code ≡ 0x0D → ⊥) → (code ≡ codePAUSE → ⊥) → {cells′ : List ℕ} {said : Answer Stack} → CarriesOut code operand next cells (g .p) (g .flag) cells′ said →
         Does said (wentTo cells′ (cyclesOf code))
-    cells-acts other {cells′} {said} carries =
-        record { is = carries mem here .0 ∙ ap (λ (price : ℕ). stepBy said (wentTo cells′ price)) (cost other) }
+    cells-acts other on {cells′} {said} carries =
+        record { on = on; is = carries reach mem here .0 ∙ ap (λ (price : ℕ). stepBy said (wentTo cells′ price)) (cost other) }
 
     -- a refusal leaves the cells as they were
-    pub cells-end : (code ≡ 0x0D → ⊥) → {cells′ : List ℕ} {said : Answer Stack} → CarriesOut code operand next cells (g .p) (g .flag) cells′ said →
-        {number : ℕ} → said ≡ refuses number → {g′ : Registers} → g′ ≡ haltedBy said g → Round mem₀ m₀ budget mem cells′ returns frames levels g′
-    cells-end other {cells′} {said} carries e {g′} eg =
-        let same : cells′ ≡ cells = subst (Unaltered cells cells′) e (carries mem here .1) in
-        subst⁻¹ (λ (l : List ℕ). Round mem₀ m₀ budget mem l returns frames levels g′) same (ends found (cells-acts other carries) e refl eg)
+    pub cells-end : (code ≡ 0x0D → ⊥) → (code ≡ codePAUSE → ⊥) → {cells′ : List ℕ} {said : Answer Stack} → CarriesOut code operand next cells (g .p) (g .flag) cells′ said →
+        {number : ℕ} → said ≡ refuses number → {g′ : Registers} → g′ ≡ haltedBy said g → Round reach inTurns mem₀ m₀ budget mem cells′ returns frames levels g′
+    cells-end other on {cells′} {said} carries e {g′} eg =
+        let same : cells′ ≡ cells = subst (Unaltered cells cells′) e (carries reach mem here .1) in
+        subst⁻¹ (λ (l : List ℕ). Round reach inTurns mem₀ m₀ budget mem l returns frames levels g′) same (ends found (cells-acts other on carries) e refl eg)
+
+    -- PAUSE
+    pub pause-is : code ≡ codePAUSE →
+        carried (inReach reach code operand next) mem here ≡
+        done mem (machineIn cells returns frames levels (movedTo g (g .p) (g .r) (g .s) (g .e) next (g .flag))) (cyclesOf code)
+    unfolding carried rowOf entryAt table barOf
+    pause-is key =
+        let none : 0 ≤ g .p = omega arith in
+        let depth : g .p - 0 + 0 ≡ g .p = omega arith in
+        rw (key, le-ltb (g .p) 0 none, room (g .p - 0) (omega arith), depth)

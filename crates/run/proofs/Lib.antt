@@ -8,9 +8,10 @@ mod Arithmetic
 mod Fetching
 mod OneByte
 mod Unknown
--- where an access lies, and what a store writes
+-- where an access within the shared bytes lies, and what a store writes
 mod Places
 mod Written
+mod Lent
 -- tests of the code as the definition's own
 mod Rules
 -- what an answer means for the step, and what it tells of the pointers
@@ -24,3 +25,6 @@ mod Rounds
 mod Arms
 -- the door
 mod Entry
+-- a run of tasks: machines and kept numbers as tasks, and the loop of turns
+mod Pairs
+mod Turning

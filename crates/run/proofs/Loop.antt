@@ -1,29 +1,30 @@
 -- Where the run's loop stands: what is left of the run from here is what the whole run is.
 use mathlib.Core.Path.{_≡_, ap, sym, _∙_, subst}
-use mathlib.Core.Bool.{true}
+use mathlib.Core.Bool.{Bool, true, false}
 use mathlib.Core.List.{List, map}
 use Prim.Native.Nat.{ℕ, suc, _+_, _-_, _*_, _≤_, _<_}
 use native.Mathlib.Omega.{arith}
 use lib.Dec.{leb, eqb, T, leb→le, eqb→eq}
 use lib.ListN.{length, length-map}
-use Rattle.plain.specs.Choice.{both}
+use Rattle.plain.specs.Choice.{pick, both}
 use Rattle.plain.specs.Laws.Choice.{both-parts, is-true}
 use Rattle.machine.specs.Limits.{memoryLength, mostBudget}
 use Rattle.machine.specs.State.{wellFormed, Whole}
 use Rattle.machine.specs.Fetch.{instructionAt}
 use Rattle.machine.specs.Step.{Stepped, refused, done, stepOf}
-use Rattle.machine.specs.Run.{After, ended, runFrom, acceptable}
+use Rattle.machine.specs.Run.{After, ended, passes, runFrom, acceptable}
 use Rattle.machine.specs.Laws.Costs.{cost-bounded}
 use Rattle.machine.specs.Laws.Kept.{Formed, formed, step-kept}
 use Rattle.machine.specs.Laws.Passed.{step-done}
 use Rattle.machine.specs.declared.Machine.{Machine}
+use Rattle.machine.specs.declared.Reach.{Reach}
 
 -- an array of structs has as many elements as the list of their values
 pub length-mapped : (X Y : Type 0) (f : X → Y) (l : List X) (n : ℕ) → length (map f l) ≡ n → length l ≡ n
 length-mapped X Y f l n e = sym (length-map l f) ∙ e
 
-pub record Here (mem₀ : List ℕ) (m₀ : Machine) (budget : ℕ) (mem : List ℕ) (m : Machine) (n c : ℕ) : Type 0 where
-  pub same : runFrom budget mem₀ m₀ 0 0 ≡ runFrom (budget - n) mem m n c
+pub record Here (reach : Reach) (inTurns : Bool) (mem₀ : List ℕ) (m₀ : Machine) (budget : ℕ) (mem : List ℕ) (m : Machine) (n c : ℕ) : Type 0 where
+  pub same : runFrom reach inTurns budget mem₀ m₀ 0 0 ≡ runFrom reach inTurns (budget - n) mem m n c
   pub within : n ≤ budget
   pub priced : c ≤ 42 * n
   pub limit : budget ≤ mostBudget
@@ -32,16 +33,16 @@ pub record Here (mem₀ : List ℕ) (m₀ : Machine) (budget : ℕ) (mem : List 
   pub whole : Whole m
   pub formed : Formed m
 
-module _ (mem₀ : List ℕ) (m₀ : Machine) (budget : ℕ) where
+module _ (reach : Reach) (inTurns : Bool) (mem₀ : List ℕ) (m₀ : Machine) (budget : ℕ) where
   -- it starts
-  pub starts : acceptable mem₀ m₀ budget ≡ true → Whole m₀ → Here mem₀ m₀ budget mem₀ m₀ 0 0
+  pub starts : acceptable mem₀ m₀ budget ≡ true → Whole m₀ → Here reach inTurns mem₀ m₀ budget mem₀ m₀ 0 0
   unfolding acceptable
   starts e whole =
       let t = both-parts (eqb (length mem₀) memoryLength) (both (leb budget mostBudget) (wellFormed m₀)) (subst T (sym e) tt) in
       let u = both-parts (leb budget mostBudget) (wellFormed m₀) (t .1) in
       let long = eqb→eq (length mem₀) memoryLength (t .0) in
       record {
-        same = ap (λ (left : ℕ). runFrom left mem₀ m₀ 0 0) (omega arith);
+        same = ap (λ (left : ℕ). runFrom reach inTurns left mem₀ m₀ 0 0) (omega arith);
         within = omega arith;
         priced = omega arith;
         limit = leb→le budget mostBudget (u .0);
@@ -52,33 +53,35 @@ module _ (mem₀ : List ℕ) (m₀ : Machine) (budget : ℕ) where
       }
 
   -- what the next step makes of a run with budget left
-  run-step : (left : ℕ) (mem : List ℕ) (m : Machine) (n c : ℕ) (s : Stepped) → stepOf mem m ≡ s →
-      runFrom (suc left) mem m n c ≡
+  run-step : (left : ℕ) (mem : List ℕ) (m : Machine) (n c : ℕ) (s : Stepped) → stepOf reach mem m ≡ s →
+      runFrom reach inTurns (suc left) mem m n c ≡
       elim s as (λ x. After) [
         | refused number ↦ ended number mem m n c
-        | done mem′ m′ cost ↦ runFrom left mem′ m′ (suc n) (c + cost)
+        | done mem′ m′ cost ↦
+            pick (passes inTurns mem m) (ended 1 mem′ m′ (suc n) (c + cost)) (runFrom reach inTurns left mem′ m′ (suc n) (c + cost))
       ]
   unfolding runFrom
   run-step left mem m n c s e = rw (e, runFrom)
 
-  -- a step that is carried out
+  -- a step that is carried out and passes no turn
   pub advances : (mem : List ℕ) (m : Machine) (n c : ℕ) (mem′ : List ℕ) (m′ : Machine) (cost n′ c′ : ℕ) →
-      Here mem₀ m₀ budget mem m n c → n < budget → stepOf mem m ≡ done mem′ m′ cost → n′ ≡ n + 1 → c′ ≡ c + cost →
-      Here mem₀ m₀ budget mem′ m′ n′ c′
-  advances mem m n c mem′ m′ cost n′ c′ h less e en ec =
-      let good = step-kept mem m mem′ m′ cost (h .whole) (h .formed) e in
-      let d = step-done mem m mem′ m′ cost e in
-      let paid = cost-bounded (instructionAt mem (m .counter)) m in
+      Here reach inTurns mem₀ m₀ budget mem m n c → n < budget → stepOf reach mem m ≡ done mem′ m′ cost → passes inTurns mem m ≡ false →
+      n′ ≡ n + 1 → c′ ≡ c + cost → Here reach inTurns mem₀ m₀ budget mem′ m′ n′ c′
+  advances mem m n c mem′ m′ cost n′ c′ h less e on en ec =
+      let good = step-kept reach mem m mem′ m′ cost (h .whole) (h .formed) e in
+      let d = step-done reach mem m mem′ m′ cost e in
+      let paid = cost-bounded (instructionAt reach mem (m .counter)) m in
       let left : budget - n ≡ suc (budget - n′) = omega arith in
       let count : suc n ≡ n′ = omega arith in
       let k = d .cost in
       record {
         same =
             h .same ∙
-            (ap (λ (x : ℕ). runFrom x mem m n c) left ∙
+            (ap (λ (x : ℕ). runFrom reach inTurns x mem m n c) left ∙
             (run-step (budget - n′) mem m n c (done mem′ m′ cost) e ∙
-            (ap (λ (x : ℕ). runFrom (budget - n′) mem′ m′ x (c + cost)) count ∙
-            ap (λ (x : ℕ). runFrom (budget - n′) mem′ m′ n′ x) (sym ec))));
+            (ap (λ (b : Bool). pick b (ended 1 mem′ m′ (suc n) (c + cost)) (runFrom reach inTurns (budget - n′) mem′ m′ (suc n) (c + cost))) on ∙
+            (ap (λ (x : ℕ). runFrom reach inTurns (budget - n′) mem′ m′ x (c + cost)) count ∙
+            ap (λ (x : ℕ). runFrom reach inTurns (budget - n′) mem′ m′ n′ x) (sym ec)))));
         within = omega arith;
         priced = omega (arith, k, paid);
         limit = h .limit;
@@ -88,18 +91,32 @@ module _ (mem₀ : List ℕ) (m₀ : Machine) (budget : ℕ) where
         formed = good .formed;
       }
 
+  -- a step that passes the turn ends the run behind it
+  pub pauses : (mem : List ℕ) (m : Machine) (n c : ℕ) (mem′ : List ℕ) (m′ : Machine) (cost n′ c′ : ℕ) →
+      Here reach inTurns mem₀ m₀ budget mem m n c → n < budget → stepOf reach mem m ≡ done mem′ m′ cost → passes inTurns mem m ≡ true →
+      n′ ≡ n + 1 → c′ ≡ c + cost → ended 1 mem′ m′ n′ c′ ≡ runFrom reach inTurns budget mem₀ m₀ 0 0
+  pauses mem m n c mem′ m′ cost n′ c′ h less e over en ec =
+      let left : budget - n ≡ suc (budget - n′) = omega arith in
+      let count : suc n ≡ n′ = omega arith in
+      sym
+      (h .same ∙
+      (ap (λ (x : ℕ). runFrom reach inTurns x mem m n c) left ∙
+      (run-step (budget - n′) mem m n c (done mem′ m′ cost) e ∙
+      (ap (λ (b : Bool). pick b (ended 1 mem′ m′ (suc n) (c + cost)) (runFrom reach inTurns (budget - n′) mem′ m′ (suc n) (c + cost))) over ∙
+      (ap (λ (x : ℕ). ended 1 mem′ m′ x (c + cost)) count ∙ ap (λ (x : ℕ). ended 1 mem′ m′ n′ x) (sym ec))))))
+
   -- a refusal ends the run where it stands
-  pub stops : (mem : List ℕ) (m : Machine) (n c number : ℕ) → Here mem₀ m₀ budget mem m n c → n < budget →
-      stepOf mem m ≡ refused number → ended number mem m n c ≡ runFrom budget mem₀ m₀ 0 0
+  pub stops : (mem : List ℕ) (m : Machine) (n c number : ℕ) → Here reach inTurns mem₀ m₀ budget mem m n c → n < budget →
+      stepOf reach mem m ≡ refused number → ended number mem m n c ≡ runFrom reach inTurns budget mem₀ m₀ 0 0
   stops mem m n c number h less e =
       let left : budget - n ≡ suc (budget - n - 1) = omega arith in
       sym
-      (h .same ∙ (ap (λ (x : ℕ). runFrom x mem m n c) left ∙ run-step (budget - n - 1) mem m n c (refused number) e))
+      (h .same ∙ (ap (λ (x : ℕ). runFrom reach inTurns x mem m n c) left ∙ run-step (budget - n - 1) mem m n c (refused number) e))
 
   -- a spent budget ends the run
-  pub spends : (mem : List ℕ) (m : Machine) (n c : ℕ) → Here mem₀ m₀ budget mem m n c → budget ≤ n →
-      ended 1 mem m n c ≡ runFrom budget mem₀ m₀ 0 0
+  pub spends : (mem : List ℕ) (m : Machine) (n c : ℕ) → Here reach inTurns mem₀ m₀ budget mem m n c → budget ≤ n →
+      ended 1 mem m n c ≡ runFrom reach inTurns budget mem₀ m₀ 0 0
   unfolding runFrom
   spends mem m n c h over =
       let left : budget - n ≡ 0 = omega arith in
-      sym (h .same ∙ ap (λ (x : ℕ). runFrom x mem m n c) left)
+      sym (h .same ∙ ap (λ (x : ℕ). runFrom reach inTurns x mem m n c) left)

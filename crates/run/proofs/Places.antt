@@ -1,49 +1,44 @@
--- Where a long access outside memory lies: the locals and the exception cells stand 4 bytes apart.
-use mathlib.Core.Path.{_≡_, refl}
-use mathlib.Core.Bool.{Bool, true, false}
-use Prim.Native.Nat.{ℕ, _-_, _/_, _%_, _≤_, _<_}
+-- An access that is wholly within the shared bytes lies in memory, and nothing bars it; and one to the own part lies in that.
+use mathlib.Core.Path.{_≡_, subst⁻¹}
+use Prim.Native.Nat.{ℕ, _+_, _≤_}
 use native.Mathlib.Omega.{arith}
-use borrow.Author.Tests.{le-leb, lt-leb, eq-eqb, ne-eqb}
-use lib.Dec.{leb}
-use Rattle.plain.specs.Choice.{pick, both}
-use Rattle.machine.specs.Memory.{isListedCell, firstLocal, lastLocal, firstCell, lastCell}
-use Rattle.machine.specs.declared.Place.{Place}
-use Rattle.machine.specs.declared.Place.the-variants.{Local, Cell, Nowhere}
+use borrow.Author.Tests.{le-leb}
+use lib.Dec.{T, leb, leb→le}
+use Rattle.plain.specs.Answer.{gives}
+use Rattle.plain.specs.Laws.Choice.{both-parts}
+use Rattle.machine.specs.Limits.{memoryLength}
+use Rattle.machine.specs.Memory.{size, placeOf}
+use Rattle.machine.specs.Laws.Bars.{shared-free}
+use Rattle.machine.specs.declared.Reach.{Reach}
+use Rattle.machine.specs.declared.Width.{Width}
+use Rattle.machine.specs.declared.Width.the-variants.{Byte, Word, Long}
+use Rattle.machine.specs.declared.Place.the-variants.{Memory}
+use Rattle.reach.specs.Spots.{spotOf, ToldApart}
+use Rattle.reach.specs.declared.Spot.the-variants as spot
+use Rattle.reach.specs.declared.Reached.{Reached}
+use Rattle.reach.specs.declared.Reached.the-variants as reached
+use Rattle.run.specs.Accesses.{OwnWithin}
 
--- the cell at an address, as the definition of a place has it
-abbrev pub cellAt : ℕ → Place
-cellAt a =
-    pick (isListedCell firstLocal lastLocal a)
-    (Local ((a - firstLocal) / 4))
-    (pick (isListedCell firstCell lastCell a) (Cell ((a - firstCell) / 4)) Nowhere)
+-- no access has more than four bytes
+four-bytes : (w : Width) → size w ≤ 4
+four-bytes Byte = omega arith
+four-bytes Word = omega arith
+four-bytes Long = omega arith
 
-neither : (x y : Bool) → both x (both y false) ≡ false
-neither true true = refl
-neither true false = refl
-neither false y = refl
+pub shared-place : (reach : Reach) (w : Width) (a : ℕ) → reach .shared ≤ memoryLength → a + 4 ≤ reach .shared → gives (Memory a) ≡ spotOf reach w a
+unfolding spotOf placeOf
+shared-place reach w a limit h =
+    let few = four-bytes w in
+    let within : a + size w ≤ reach .shared = omega arith in
+    let inside : a + size w ≤ memoryLength = omega arith in
+    rw (le-leb (a + size w) memoryLength inside, shared-free reach (size w) a limit within)
 
-module _ (a : ℕ) where
-  pub cell-low : a < firstLocal → Nowhere ≡ cellAt a
-  cell-low h =
-      let lower : a < firstCell = omega arith in
-      rw (lt-leb firstLocal a h, lt-leb firstCell a lower)
-
-  pub cell-high : lastCell < a → Nowhere ≡ cellAt a
-  cell-high h =
-      let first : firstLocal ≤ a = omega arith in
-      let second : firstCell ≤ a = omega arith in
-      let past : lastLocal < a = omega arith in
-      rw (le-leb firstLocal a first, lt-leb a lastLocal past, le-leb firstCell a second, lt-leb a lastCell h)
-
-  pub cell-between : (a % 4 ≡ 0 → ⊥) → Nowhere ≡ cellAt a
-  cell-between h =
-      rw (ne-eqb (a % 4) 0 h, neither (leb firstLocal a) (leb a lastLocal), neither (leb firstCell a) (leb a lastCell))
-
-  pub cell-local : firstLocal ≤ a → a ≤ lastLocal → a % 4 ≡ 0 → Local ((a - firstLocal) / 4) ≡ cellAt a
-  cell-local h g e = rw (le-leb firstLocal a h, le-leb a lastLocal g, eq-eqb (a % 4) 0 e)
-
-  pub cell-cell : lastLocal < a → a ≤ lastCell → a % 4 ≡ 0 → Cell ((a - firstCell) / 4) ≡ cellAt a
-  cell-cell h g e =
-      let first : firstLocal ≤ a = omega arith in
-      let second : firstCell ≤ a = omega arith in
-      rw (le-leb firstLocal a first, lt-leb a lastLocal h, le-leb firstCell a second, le-leb a lastCell g, eq-eqb (a % 4) 0 e)
+-- what is told apart as an access to the own part lies in it
+pub own-within : (reach : Reach) (w : Width) (r : Reached) → ToldApart reach w r → OwnWithin reach w r
+own-within reach w (reached.At (spot.Memory a)) h = tt
+own-within reach w (reached.At (spot.Own a)) h =
+    let t = both-parts (leb (reach .own) a) (leb (a + size w) (reach .end)) (subst⁻¹ T h tt) in
+    (leb→le (reach .own) a (t .0), leb→le (a + size w) (reach .end) (t .1))
+own-within reach w (reached.At (spot.Local k)) h = tt
+own-within reach w (reached.At (spot.Cell k)) h = tt
+own-within reach w (reached.Refused number) h = tt

@@ -28,38 +28,38 @@ module _ (operand next : ℕ) (cells : List ℕ) (p flag : ℕ) where
 
   pub dup-few : p < 1 → Meets (SHUFFLE DUP) 1 operand next cells p flag cells (refuses 5)
   unfolding rowOf
-  dup-few = few (SHUFFLE DUP) 1 operand next cells p flag (p - 1) (getD cells (p - 1) 0 ∷ getD cells (p - 1) 0 ∷ []) (next) (flag) (λ code e mem rest. rw (e .asks))
+  dup-few = few (SHUFFLE DUP) 1 operand next cells p flag (p - 1) (getD cells (p - 1) 0 ∷ getD cells (p - 1) 0 ∷ []) (next) (flag) (λ code e reach mem rest. rw (e .asks))
 
   pub dup-pushed : 1 ≤ p → p ≤ cellsDepth → Meets (SHUFFLE DUP) 1 operand next cells p flag (pushedCells cells p (getD cells (p - 1) 0)) (cellPushed p flag next)
   unfolding rowOf
   dup-pushed h top =
-      by-push (SHUFFLE DUP) 1 operand next cells p flag (p - 1) (getD cells (p - 1) 0 ∷ getD cells (p - 1) 0 ∷ []) next flag (λ code e mem rest. rw (e .asks))
+      by-push (SHUFFLE DUP) 1 operand next cells p flag (p - 1) (getD cells (p - 1) 0 ∷ getD cells (p - 1) 0 ∷ []) next flag (λ code e reach mem rest. rw (e .asks))
       (getD cells (p - 1) 0) refl refl h top (rewritten h (getD cells (p - 1) 0)) (omega arith)
 
   pub over-few : p < 2 → Meets (SHUFFLE OVER) 2 operand next cells p flag cells (refuses 5)
   unfolding rowOf
-  over-few = few (SHUFFLE OVER) 2 operand next cells p flag (p - 2) (getD cells (p - 2) 0 ∷ getD cells (p - 1) 0 ∷ getD cells (p - 2) 0 ∷ []) (next) (flag) (λ code e mem rest. rw (e .asks))
+  over-few = few (SHUFFLE OVER) 2 operand next cells p flag (p - 2) (getD cells (p - 2) 0 ∷ getD cells (p - 1) 0 ∷ getD cells (p - 2) 0 ∷ []) (next) (flag) (λ code e reach mem rest. rw (e .asks))
 
   pub over-pushed : 2 ≤ p → p ≤ cellsDepth → Meets (SHUFFLE OVER) 2 operand next cells p flag (pushedCells cells p (getD cells (p - 2) 0)) (cellPushed p flag next)
   unfolding rowOf
   over-pushed h top =
-      by-push (SHUFFLE OVER) 2 operand next cells p flag (p - 2) (getD cells (p - 2) 0 ∷ getD cells (p - 1) 0 ∷ getD cells (p - 2) 0 ∷ []) next flag (λ code e mem rest. rw (e .asks))
+      by-push (SHUFFLE OVER) 2 operand next cells p flag (p - 2) (getD cells (p - 2) 0 ∷ getD cells (p - 1) 0 ∷ getD cells (p - 2) 0 ∷ []) next flag (λ code e reach mem rest. rw (e .asks))
       (getD cells (p - 2) 0) refl refl h top (rewritten-two h (getD cells (p - 2) 0)) (omega arith)
 
   pub depth-pushed : p ≤ cellsDepth → Meets (SHUFFLE PSP-AT) 0 operand next cells p flag (pushedCells cells p (p)) (cellPushed p flag next)
   unfolding rowOf
   depth-pushed top =
-      by-push (SHUFFLE PSP-AT) 0 operand next cells p flag (p - 0) (p ∷ []) next flag (λ code e mem rest. rw (e .asks))
+      by-push (SHUFFLE PSP-AT) 0 operand next cells p flag (p - 0) (p ∷ []) next flag (λ code e reach mem rest. rw (e .asks))
       (p) refl refl (omega arith) top (ap (λ (n : ℕ). set cells n (p)) (omega arith)) (omega arith)
 
   pub zero-pushed : p ≤ cellsDepth → Meets (SHUFFLE ZERO) 0 operand next cells p flag (pushedCells cells p (0)) (cellPushed p flag next)
   unfolding rowOf
   zero-pushed top =
-      by-push (SHUFFLE ZERO) 0 operand next cells p flag (p - 0) (0 ∷ []) next flag (λ code e mem rest. rw (e .asks))
+      by-push (SHUFFLE ZERO) 0 operand next cells p flag (p - 0) (0 ∷ []) next flag (λ code e reach mem rest. rw (e .asks))
       (0) refl refl (omega arith) top (ap (λ (n : ℕ). set cells n (0)) (omega arith)) (omega arith)
 
   pub literal-pushed : p ≤ cellsDepth → Meets LITERAL 0 operand next cells p flag (pushedCells cells p (operand)) (cellPushed p flag next)
   unfolding rowOf
   literal-pushed top =
-      by-push LITERAL 0 operand next cells p flag (p - 0) (operand ∷ []) next flag (λ code e mem rest. rw (e .asks))
+      by-push LITERAL 0 operand next cells p flag (p - 0) (operand ∷ []) next flag (λ code e reach mem rest. rw (e .asks))
       (operand) refl refl (omega arith) top (ap (λ (n : ℕ). set cells n (operand)) (omega arith)) (omega arith)

@@ -1,5 +1,5 @@
 -- What an answer of a check that gives something tells of the pointers.
-use mathlib.Core.Path.{_≡_, refl}
+use mathlib.Core.Path.{_≡_, refl, subst}
 use mathlib.Core.Bool.{Bool, true, false}
 use mathlib.Core.List.{List}
 use Prim.Native.Nat.{ℕ, _+_, _-_, _/_, _%_, _≤_, _<_}
@@ -11,13 +11,18 @@ use Rattle.plain.specs.Answer.{Answer, refuses, gives}
 use Rattle.plain.specs.Choice.{pick, both}
 use Rattle.links.specs.Depths.{cellsDepth, returnsDepth, subroutinesDepth, exceptionsDepth, localsCount, levelCells}
 use Rattle.machine.specs.Limits.{memoryLength}
+use Rattle.machine.specs.Reach.{barOf, isForeign}
 use Rattle.machine.specs.Memory.{size, isLong, isListedCell, firstLocal, lastLocal, firstCell, lastCell, placeOf}
+use Rattle.machine.specs.declared.Reach.{Reach}
 use Rattle.machine.specs.declared.Width.{Width}
+use Rattle.machine.specs.declared.Place.{Place}
 use Rattle.machine.specs.declared.Place.the-variants.{Memory, Local, Cell, Nowhere}
-use Rattle.run.specs.Accesses.{spotOf, reachOf}
+use Rattle.reach.specs.Spots.{allowed, spotOf}
+use Rattle.reach.specs.declared.Spot.the-variants as spot
+use Rattle.reach.specs.declared.Reached.{Reached}
+use Rattle.reach.specs.declared.Reached.the-variants as reached
+use Rattle.run.specs.Accesses.{reachOf, OwnWithin}
 use Rattle.run.specs.Verdicts.{pushable, readable, callable, catchable, throwable, exitable}
-use Rattle.run.specs.declared.Spot.{Spot}
-use Rattle.run.specs.declared.Spot.the-variants as spot
 use Rattle.run.specs.declared.Throw.{Throw}
 use Rattle.run.specs.declared.Throw.the-variants.{Zero, Code}
 use Rattle.run.proofs.Drops.{positive}
@@ -81,10 +86,11 @@ code-room cells p {e} {n} h = go (ltb p 1) (eqb (getD cells (p - 1) 0) 0) (eqb e
     go false false false t h = positive e (eqb-false e 0 t)
 
 -- an access in memory lies wholly inside it, and a cell in view is one of the sixteen or one of the eight
-Within : Width → Spot → Type 0
-Within w (spot.Memory a) = a + size w ≤ memoryLength
-Within w (spot.Local k) = k < localsCount
-Within w (spot.Cell k) = k < levelCells
+Within : Width → Place → Type 0
+Within w (Memory a) = a + size w ≤ memoryLength
+Within w (Local k) = k < localsCount
+Within w (Cell k) = k < levelCells
+Within w Nowhere = Unit {0}
 
 -- a cell that stands where an address is: the address is not past the last of its kind
 not-past : (l x y z : Bool) → both l (both x (both y z)) ≡ true → y ≡ true
@@ -93,45 +99,49 @@ not-past true true false z e = e
 not-past true false y z e = apart cc
 not-past false x y z e = apart cc
 
-module _ (w : Width) (a : ℕ) where
-  place-within : (at : Spot) → spotOf (placeOf w a) ≡ gives at → Within w at
-  unfolding placeOf Within
-  place-within at e =
-      go (leb (a + size w) memoryLength) refl (both (isLong w) (isListedCell firstLocal lastLocal a)) refl (both (isLong w) (isListedCell firstCell lastCell a)) refl at e
-    where
-      go : (b : Bool) → leb (a + size w) memoryLength ≡ b → (d : Bool) → both (isLong w) (isListedCell firstLocal lastLocal a) ≡ d →
-          (f : Bool) → both (isLong w) (isListedCell firstCell lastCell a) ≡ f → (at : Spot) →
-          spotOf (pick b (Memory a) (pick d (Local ((a - firstLocal) / 4)) (pick f (Cell ((a - firstCell) / 4)) Nowhere))) ≡ gives at → Within w at
-      go true h d hd f hf (spot.Memory k) e = let same : a ≡ k = cc in omega (arith, leb-true (a + size w) memoryLength h)
-      go true h d hd f hf (spot.Local k) e = apart cc
-      go true h d hd f hf (spot.Cell k) e = apart cc
-      go false h true hd f hf (spot.Memory k) e = apart cc
-      go false h true hd f hf (spot.Local k) e =
-          let same : (a - firstLocal) / 4 ≡ k = cc in
-          omega (arith, leb-true a lastLocal (not-past (isLong w) (leb firstLocal a) (leb a lastLocal) (eqb (a % 4) 0) hd))
-      go false h true hd f hf (spot.Cell k) e = apart cc
-      go false h false hd true hf (spot.Memory k) e = apart cc
-      go false h false hd true hf (spot.Local k) e = apart cc
-      go false h false hd true hf (spot.Cell k) e =
-          let same : (a - firstCell) / 4 ≡ k = cc in
-          omega (arith, leb-true a lastCell (not-past (isLong w) (leb firstCell a) (leb a lastCell) (eqb (a % 4) 0) hf))
-      go false h false hd false hf at e = apart cc
+place-within : (w : Width) (a : ℕ) → Within w (placeOf w a)
+unfolding placeOf Within
+place-within w a =
+    go (leb (a + size w) memoryLength) refl (both (isLong w) (isListedCell firstLocal lastLocal a)) refl (both (isLong w) (isListedCell firstCell lastCell a)) refl
+  where
+    go : (b : Bool) → leb (a + size w) memoryLength ≡ b → (d : Bool) → both (isLong w) (isListedCell firstLocal lastLocal a) ≡ d →
+        (f : Bool) → both (isLong w) (isListedCell firstCell lastCell a) ≡ f →
+        Within w (pick b (Memory a) (pick d (Local ((a - firstLocal) / 4)) (pick f (Cell ((a - firstCell) / 4)) Nowhere)))
+    go true h d hd f hf = leb-true (a + size w) memoryLength h
+    go false h true hd f hf = omega (arith, leb-true a lastLocal (not-past (isLong w) (leb firstLocal a) (leb a lastLocal) (eqb (a % 4) 0) hd))
+    go false h false hd true hf = omega (arith, leb-true a lastCell (not-past (isLong w) (leb firstCell a) (leb a lastCell) (eqb (a % 4) 0) hf))
+    go false h false hd false hf = tt
 
-module _ (w : Width) (cells : List ℕ) {takes p : ℕ} where
-  reached : {at : Spot} → reachOf takes w cells p ≡ gives at → (takes ≤ p) × Within w at
-  unfolding reachOf
-  reached {at} e =
-      let a = passed (ltb p takes) 5 (spotOf (placeOf w (getD cells (p - 1) 0))) at e in
-      (ltb-false p takes (a .0), place-within w (getD cells (p - 1) 0) at (a .1))
+-- what is allowed is where it is
+allowed-within : (reach : Reach) (w : Width) (place at : Place) → allowed reach w place ≡ gives at → Within w place → Within w at
+allowed-within reach w (Memory a) at e h =
+    let same = passed (isForeign (barOf reach a (size w))) 17 (gives (Memory a)) at e .1 in
+    let is : Memory a ≡ at = cc in
+    subst (Within w) is h
+allowed-within reach w (Local k) at e h = let is : Local k ≡ at = cc in subst (Within w) is h
+allowed-within reach w (Cell k) at e h = let is : Cell k ≡ at = cc in subst (Within w) is h
+allowed-within reach w Nowhere at e h = apart cc
 
-  pub memory-room : {a : ℕ} → reachOf takes w cells p ≡ gives (spot.Memory a) → (takes ≤ p) × (a + size w ≤ memoryLength)
+module _ (reach : Reach) (w : Width) (cells : List ℕ) {takes p : ℕ} where
+  reaches : {at : Place} → reachOf reach takes w cells p ≡ gives at → (takes ≤ p) × Within w at
+  unfolding reachOf spotOf
+  reaches {at} e =
+      let address = getD cells (p - 1) 0 in
+      let a = passed (ltb p takes) 5 (spotOf reach w address) at e in
+      (ltb-false p takes (a .0), allowed-within reach w (placeOf w address) at (a .1) (place-within w address))
+
+  pub memory-room : {a : ℕ} → reachOf reach takes w cells p ≡ gives (Memory a) → (takes ≤ p) × (a + size w ≤ memoryLength)
   unfolding Within
-  memory-room e = reached e
+  memory-room e = reaches e
 
-  pub local-room : {k : ℕ} → reachOf takes w cells p ≡ gives (spot.Local k) → (takes ≤ p) × (k < localsCount)
+  pub local-room : {k : ℕ} → reachOf reach takes w cells p ≡ gives (Local k) → (takes ≤ p) × (k < localsCount)
   unfolding Within
-  local-room e = reached e
+  local-room e = reaches e
 
-  pub cell-room : {k : ℕ} → reachOf takes w cells p ≡ gives (spot.Cell k) → (takes ≤ p) × (k < levelCells)
+  pub cell-room : {k : ℕ} → reachOf reach takes w cells p ≡ gives (Cell k) → (takes ≤ p) × (k < levelCells)
   unfolding Within
-  cell-room e = reached e
+  cell-room e = reaches e
+
+-- an access to the own part lies wholly in it
+pub own-room : (reach : Reach) (w : Width) {r : Reached} {a : ℕ} → OwnWithin reach w r → r ≡ reached.At (spot.Own a) → (reach .own ≤ a) × (a + size w ≤ reach .end)
+own-room reach w h e = subst (OwnWithin reach w) e h

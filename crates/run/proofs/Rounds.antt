@@ -1,11 +1,15 @@
 -- A round of the loop: what holds at its head, and how it goes on or ends the run.
-use mathlib.Core.Path.{_≡_, ap, sym, _∙_, subst, subst⁻¹}
+use mathlib.Core.Path.{_≡_, refl, ap, sym, _∙_, subst, subst⁻¹}
+use mathlib.Core.Bool.{Bool, true, false}
 use mathlib.Core.List.{List}
 use Prim.Native.Nat.{ℕ, zero, suc, _+_, _-_, _*_, _≤_, _<_}
 use native.Mathlib.Nat.{not-suc-le-zero}
 use native.Mathlib.Omega.{arith}
+use borrow.Author.Tests.{eq-eqb, ne-eqb}
 use lib.ListN.{length}
 use Rattle.plain.specs.Answer.{Answer, refuses, gives}
+use Rattle.plain.specs.Choice.{pick, both}
+use Rattle.numbers.specs.Bytes.{byteAt}
 use Rattle.links.specs.Depths.{cellsDepth, returnsDepth, subroutinesDepth, exceptionsDepth, mostCopyOfP}
 use Rattle.links.specs.Linked.{copyOfS, copyOfP}
 use Rattle.links.specs.Laws.Sound.{Sound, Rise, Within}
@@ -13,28 +17,34 @@ use Rattle.links.specs.declared.Frame.{Frame}
 use Rattle.links.specs.declared.Level.{Level}
 use Rattle.links.specs.declared.Links.{Links}
 use Rattle.machine.specs.Limits.{memoryLength, mostBudget}
+use Rattle.machine.specs.Reach.{isForeign}
+use Rattle.machine.specs.Codes.{codePAUSE}
 use Rattle.machine.specs.Fetch.{instructionAt}
 use Rattle.machine.specs.Step.{Stepped, refused, done, carried, stepOf}
-use Rattle.machine.specs.Run.{ended, runFrom}
+use Rattle.machine.specs.Run.{ended, passes, runFrom}
+use Rattle.machine.specs.Laws.Costs.{cost-bounded}
+use Rattle.machine.specs.Laws.Kept.{step-kept}
+use Rattle.machine.specs.Laws.Passed.{step-done}
 use Rattle.machine.specs.declared.Machine.{Machine}
+use Rattle.machine.specs.declared.Reach.{Reach}
 use Rattle.machine.specs.declared.Steps.{Steps}
 use Rattle.machine.specs.declared.Cycles.{Cycles}
-use Rattle.run.specs.Machines.{linksOf, insideMemory}
-use Rattle.run.specs.Promises.{fetchedOf}
-use Rattle.run.specs.Registers.{machineIn, countedTo, haltedAt, haltedBy}
+use Rattle.run.specs.Machines.{linksOf, inReach}
+use Rattle.run.specs.Promises.{fetchedOf, Fetches}
+use Rattle.run.specs.Registers.{machineIn, countedTo, haltedAt, haltedBy, pausedAt}
 use Rattle.run.specs.declared.Registers.{Registers}
 use Rattle.run.proofs.Answered.{Acts, by-gift, by-refusal}
-use Rattle.run.proofs.CutOff.{step-is, cut-off}
-use Rattle.run.proofs.Loop.{Here, advances, stops, spends}
+use Rattle.run.proofs.CutOff.{code-there, step-is, cut-off, foreign-refused}
+use Rattle.run.proofs.Loop.{Here, advances, pauses, stops, spends}
 
 -- the run goes on from here
-pub record Going (mem₀ : List ℕ) (m₀ : Machine) (budget : ℕ) (mem : List ℕ) (m : Machine) (g : Registers) : Type 0 where
+pub record Going (reach : Reach) (inTurns : Bool) (mem₀ : List ℕ) (m₀ : Machine) (budget : ℕ) (mem : List ℕ) (m : Machine) (g : Registers) : Type 0 where
   pub none : g .unspent .0 ≡ 0
   pub unanswered : g .answer ≡ 1
-  pub here : Here mem₀ m₀ budget mem m (budget - g .left .0) (g .cycles .0)
+  pub here : Here reach inTurns mem₀ m₀ budget mem m (budget - g .left .0) (g .cycles .0)
 
 -- what holds at the loop's head
-pub record Round (mem₀ : List ℕ) (m₀ : Machine) (budget : ℕ) (mem cells returns : List ℕ) (frames : List Frame) (levels : List Level) (g : Registers) : Type 0 where
+pub record Round (reach : Reach) (inTurns : Bool) (mem₀ : List ℕ) (m₀ : Machine) (budget : ℕ) (mem cells returns : List ℕ) (frames : List Frame) (levels : List Level) (g : Registers) : Type 0 where
   pub p-within : g .p ≤ cellsDepth
   pub r-within : g .r ≤ returnsDepth
   pub s-within : g .s ≤ subroutinesDepth
@@ -46,9 +56,9 @@ pub record Round (mem₀ : List ℕ) (m₀ : Machine) (budget : ℕ) (mem cells 
   pub priced : g .cycles .0 ≤ 42 * (budget - g .left .0)
   pub long₀ : length mem₀ ≡ memoryLength
   pub long : length mem ≡ memoryLength
-  pub going : 0 < g .left .0 → Going mem₀ m₀ budget mem (machineIn cells returns frames levels g) g
+  pub going : 0 < g .left .0 → Going reach inTurns mem₀ m₀ budget mem (machineIn cells returns frames levels g) g
   pub over : g .left .0 ≤ 0 →
-      ended (g .answer) mem (machineIn cells returns frames levels g) (budget - g .unspent .0) (g .cycles .0) ≡ runFrom budget mem₀ m₀ 0 0
+      ended (g .answer) mem (machineIn cells returns frames levels g) (budget - g .unspent .0) (g .cycles .0) ≡ runFrom reach inTurns budget mem₀ m₀ 0 0
 
 -- the top exception level's copies
 top-within : (copy : ℕ → ℕ) (limit n : ℕ) → 0 < n → Within copy limit n → copy n ≤ limit
@@ -74,12 +84,12 @@ halted-less {A} g {g′} eg e less =
 abbrev pub countsOf : Registers → Steps × (Cycles × (ℕ × Steps))
 countsOf g = (g .left, (g .cycles, (g .answer, g .unspent)))
 
-module _ {mem₀ : List ℕ} {m₀ : Machine} {budget : ℕ} where
+module _ {reach : Reach} {inTurns : Bool} {mem₀ : List ℕ} {m₀ : Machine} {budget : ℕ} where
   -- where the definition's run stands, the loop goes on
   round-here : {mem cells returns : List ℕ} {frames : List Frame} {levels : List Level} {g : Registers} →
       g .answer ≡ 1 → g .unspent .0 ≡ 0 → g .left .0 ≤ budget →
-      Here mem₀ m₀ budget mem (machineIn cells returns frames levels g) (budget - g .left .0) (g .cycles .0) →
-      Round mem₀ m₀ budget mem cells returns frames levels g
+      Here reach inTurns mem₀ m₀ budget mem (machineIn cells returns frames levels g) (budget - g .left .0) (g .cycles .0) →
+      Round reach inTurns mem₀ m₀ budget mem cells returns frames levels g
   round-here {mem} {cells} {returns} {frames} {levels} {g} unanswered none within here =
       let m = machineIn cells returns frames levels g in
       record {
@@ -99,30 +109,30 @@ module _ {mem₀ : List ℕ} {m₀ : Machine} {budget : ℕ} where
             let same : budget - g .unspent .0 ≡ budget - g .left .0 = omega arith in
             ap (λ (n : ℕ). ended (g .answer) mem m n (g .cycles .0)) same ∙
             (ap (λ (a : ℕ). ended a mem m (budget - g .left .0) (g .cycles .0)) unanswered ∙
-            spends mem₀ m₀ budget mem m (budget - g .left .0) (g .cycles .0) here (omega arith));
+            spends reach inTurns mem₀ m₀ budget mem m (budget - g .left .0) (g .cycles .0) here (omega arith));
       }
 
   -- nothing is spent at first
   pub begins : {mem cells returns : List ℕ} {frames : List Frame} {levels : List Level} {g : Registers} →
       g .answer ≡ 1 → g .unspent .0 ≡ 0 → g .left .0 ≡ budget → g .cycles .0 ≡ 0 →
-      Here mem₀ m₀ budget mem (machineIn cells returns frames levels g) 0 0 → Round mem₀ m₀ budget mem cells returns frames levels g
+      Here reach inTurns mem₀ m₀ budget mem (machineIn cells returns frames levels g) 0 0 → Round reach inTurns mem₀ m₀ budget mem cells returns frames levels g
   begins {mem} {cells} {returns} {frames} {levels} {g} unanswered none all free here =
       let m = machineIn cells returns frames levels g in
       let start : 0 ≡ budget - g .left .0 = omega arith in
       round-here unanswered none (omega arith)
-      (subst (λ (n : ℕ). Here mem₀ m₀ budget mem m n (g .cycles .0)) start (subst (λ (c : ℕ). Here mem₀ m₀ budget mem m 0 c) (sym free) here))
+      (subst (λ (n : ℕ). Here reach inTurns mem₀ m₀ budget mem m n (g .cycles .0)) start (subst (λ (c : ℕ). Here reach inTurns mem₀ m₀ budget mem m 0 c) (sym free) here))
 
   module _ {mem cells returns : List ℕ} {frames : List Frame} {levels : List Level} {g : Registers}
-      (round : Round mem₀ m₀ budget mem cells returns frames levels g) (less : 0 < g .left .0)
+      (round : Round reach inTurns mem₀ m₀ budget mem cells returns frames levels g) (less : 0 < g .left .0)
     where
       abbrev here : Machine
       here = machineIn cells returns frames levels g
 
       -- the step is refused: the run is over, with the refusal's number, and the machine stays
-      over-with : {number : ℕ} → stepOf mem here ≡ refused number → {g′ : Registers} → g′ ≡ haltedAt g number →
-          Round mem₀ m₀ budget mem cells returns frames levels g′
+      over-with : {number : ℕ} → stepOf reach mem here ≡ refused number → {g′ : Registers} → g′ ≡ haltedAt g number →
+          Round reach inTurns mem₀ m₀ budget mem cells returns frames levels g′
       over-with {number} e {g′} eg =
-          subst⁻¹ (Round mem₀ m₀ budget mem cells returns frames levels) eg
+          subst⁻¹ (Round reach inTurns mem₀ m₀ budget mem cells returns frames levels) eg
           (record {
             p-within = round .p-within;
             r-within = round .r-within;
@@ -138,35 +148,127 @@ module _ {mem₀ : List ℕ} {m₀ : Machine} {budget : ℕ} where
             going = λ h. absurd (omega arith);
             over = λ spent.
                 let within = round .left-within in
-                stops mem₀ m₀ budget mem here (budget - g .left .0) (g .cycles .0) number (round .going less .here) (omega arith) e;
+                stops reach inTurns mem₀ m₀ budget mem here (budget - g .left .0) (g .cycles .0) number (round .going less .here) (omega arith) e;
           })
 
+      -- a byte of the instruction is in another's part
+      pub foreign-ends : {b : Bool} → b ≡ isForeign (instructionAt reach mem (g .counter) .bar) → b ≡ true → {g′ : Registers} → g′ ≡ haltedAt g 17 →
+          Round reach inTurns mem₀ m₀ budget mem cells returns frames levels g′
+      foreign-ends eb e eg = over-with (foreign-refused reach mem here (sym eb ∙ e)) eg
+
       -- nothing is fetched
-      pub fetch-ends : {said : Answer _} → said ≡ fetchedOf (instructionAt mem (g .counter)) → {number : ℕ} → said ≡ refuses number →
-          {g′ : Registers} → g′ ≡ haltedBy said g → Round mem₀ m₀ budget mem cells returns frames levels g′
-      fetch-ends {said} ef {number} e eg =
-          let now = round .going less .here in
-          over-with (cut-off mem here number (now .long) (sym ef ∙ e)) (eg ∙ ap (λ (a : Answer _). haltedBy a g) e)
+      pub fetch-ends : {said : Reach → Answer _} → Fetches mem (g .counter) said → {b : Bool} → b ≡ isForeign (instructionAt reach mem (g .counter) .bar) → b ≡ false →
+          {number : ℕ} → said reach ≡ refuses number → {g′ : Registers} → g′ ≡ haltedAt g number → Round reach inTurns mem₀ m₀ budget mem cells returns frames levels g′
+      fetch-ends {said} ef eb own {number} e eg = over-with (cut-off reach mem here number (sym (ef reach (sym eb ∙ own)) ∙ e)) eg
 
 -- an instruction is fetched, with budget left
-pub record Found (mem₀ : List ℕ) (m₀ : Machine) (budget : ℕ) (mem cells returns : List ℕ) (frames : List Frame) (levels : List Level) (g : Registers)
+pub record Found (reach : Reach) (inTurns : Bool) (mem₀ : List ℕ) (m₀ : Machine) (budget : ℕ) (mem cells returns : List ℕ) (frames : List Frame) (levels : List Level) (g : Registers)
     (code operand next : ℕ) : Type 0 where
-  pub round : Round mem₀ m₀ budget mem cells returns frames levels g
+  pub round : Round reach inTurns mem₀ m₀ budget mem cells returns frames levels g
   pub less : 0 < g .left .0
-  pub fetched : fetchedOf (instructionAt mem (g .counter)) ≡ gives (insideMemory code operand next)
+  pub fetched : fetchedOf (instructionAt reach mem (g .counter)) ≡ gives (inReach reach code operand next)
 
-module _ {mem₀ : List ℕ} {m₀ : Machine} {budget : ℕ} {mem cells returns : List ℕ} {frames : List Frame} {levels : List Level} {g : Registers}
-    {code operand next : ℕ} (found : Found mem₀ m₀ budget mem cells returns frames levels g code operand next)
+module _ {reach : Reach} {inTurns : Bool} {mem₀ : List ℕ} {m₀ : Machine} {budget : ℕ} {mem cells returns : List ℕ} {frames : List Frame} {levels : List Level} {g : Registers}
+    {code operand next : ℕ} (found : Found reach inTurns mem₀ m₀ budget mem cells returns frames levels g code operand next)
   where
-    is-step : stepOf mem (machineIn cells returns frames levels g) ≡ carried (insideMemory code operand next) mem (machineIn cells returns frames levels g)
-    is-step = step-is mem (machineIn cells returns frames levels g) code operand next (found .fetched)
+    is-step : stepOf reach mem (machineIn cells returns frames levels g) ≡ carried (inReach reach code operand next) mem (machineIn cells returns frames levels g)
+    is-step = step-is reach mem (machineIn cells returns frames levels g) code operand next (found .fetched)
+
+    -- PAUSE alone passes a turn
+    no-pause : (code ≡ codePAUSE → ⊥) → passes inTurns mem (machineIn cells returns frames levels g) ≡ false
+    no-pause other =
+        ap (both inTurns) (ne-eqb (byteAt mem (g .counter)) codePAUSE (λ h. other (sym (code-there reach mem (g .counter) code operand next (found .fetched)) ∙ h))) ∙
+        neither inTurns
+      where
+        neither : (b : Bool) → both b false ≡ false
+        neither true = refl
+        neither false = refl
+
+    a-pause : code ≡ codePAUSE → passes inTurns mem (machineIn cells returns frames levels g) ≡ inTurns
+    a-pause is =
+        ap (both inTurns) (eq-eqb (byteAt mem (g .counter)) codePAUSE (code-there reach mem (g .counter) code operand next (found .fetched) ∙ is)) ∙ itself inTurns
+      where
+        itself : (b : Bool) → both b true ≡ b
+        itself true = refl
+        itself false = refl
+
+    -- a step that is carried out and counted
+    module _ {mem′ cells′ returns′ : List ℕ} {frames′ : List Frame} {levels′ : List Level} {moved : Registers} {cost : ℕ}
+        (steps : carried (inReach reach code operand next) mem (machineIn cells returns frames levels g) ≡ done mem′ (machineIn cells′ returns′ frames′ levels′ moved) cost)
+        (same : countsOf moved ≡ countsOf g) {price : ℕ} (ep : price ≡ cost)
+      where
+        abbrev old : Machine
+        old = machineIn cells returns frames levels g
+
+        abbrev new : Machine
+        new = machineIn cells′ returns′ frames′ levels′ moved
+
+        left-same : moved .left .0 ≡ g .left .0
+        left-same = ap (λ x. x .0 .0) same
+
+        cycles-same : moved .cycles .0 ≡ g .cycles .0
+        cycles-same = ap (λ x. x .1 .0 .0) same
+
+        -- where it passes no turn, the loop goes on
+        on : passes inTurns mem old ≡ false → Round reach inTurns mem₀ m₀ budget mem′ cells′ returns′ frames′ levels′ (countedTo moved price)
+        on not =
+            let now = found .round .going (found .less) in
+            let within = found .round .left-within in
+            let less = found .less in
+            let left = left-same in
+            let cycles = cycles-same in
+            let answer : moved .answer ≡ g .answer = ap (λ x. x .1 .1 .0) same in
+            let unspent : moved .unspent .0 ≡ g .unspent .0 = ap (λ x. x .1 .1 .1 .0) same in
+            round-here (answer ∙ now .unanswered) (unspent ∙ now .none) (omega arith)
+            (advances reach inTurns mem₀ m₀ budget mem old (budget - g .left .0) (g .cycles .0) mem′ new cost (budget - (moved .left .0 - 1)) (moved .cycles .0 + price)
+            (now .here) (omega arith) (is-step ∙ steps) not (omega arith) (omega arith))
+
+        -- where it does, the run is over behind it
+        over-behind : passes inTurns mem old ≡ true → Round reach inTurns mem₀ m₀ budget mem′ cells′ returns′ frames′ levels′ (haltedAt (countedTo moved price) 1)
+        over-behind passed =
+            let here = found .round .going (found .less) .here in
+            let within = found .round .left-within in
+            let less = found .less in
+            let left = left-same in
+            let cycles = cycles-same in
+            let good = step-kept reach mem old mem′ new cost (here .whole) (here .formed) (is-step ∙ steps) in
+            let k = step-done reach mem old mem′ new cost (is-step ∙ steps) .cost in
+            let paid = cost-bounded (instructionAt reach mem (g .counter)) old in
+            let old-priced = here .priced in
+            record {
+              p-within = good .formed .p-within;
+              r-within = good .formed .sound .r-within;
+              s-within = good .formed .sound .s-within;
+              e-within = good .formed .sound .e-within;
+              catcher = copies-within (linksOf returns′ (moved .r) frames′ (moved .s) levels′ (moved .e)) (good .formed .sound);
+              left-within = omega arith;
+              limit = here .limit;
+              unspent-within = omega arith;
+              priced = omega (arith, k, paid);
+              long₀ = here .long₀;
+              long = good .same-length ∙ here .long;
+              going = λ h. absurd (omega arith);
+              over = λ spent.
+                  pauses reach inTurns mem₀ m₀ budget mem old (budget - g .left .0) (g .cycles .0) mem′ new cost (budget - (moved .left .0 - 1)) (moved .cycles .0 + price)
+                  here (omega arith) (is-step ∙ steps) passed (omega arith) (omega arith);
+            }
+
+        -- a PAUSE: the loop goes on, or the turn is passed
+        pub paused : code ≡ codePAUSE → {counted : Registers} → counted ≡ countedTo moved price → {g′ : Registers} → g′ ≡ pausedAt counted inTurns →
+            Round reach inTurns mem₀ m₀ budget mem′ cells′ returns′ frames′ levels′ g′
+        paused is ec eg =
+            subst⁻¹ (Round reach inTurns mem₀ m₀ budget mem′ cells′ returns′ frames′ levels′) (eg ∙ ap (λ (x : Registers). pausedAt x inTurns) ec) (go inTurns refl)
+          where
+            go : (b : Bool) → inTurns ≡ b → Round reach inTurns mem₀ m₀ budget mem′ cells′ returns′ frames′ levels′ (pausedAt (countedTo moved price) b)
+            go true e = over-behind (a-pause is ∙ e)
+            go false e = on (a-pause is ∙ e)
 
     module _ {A : Type 0} {said : Answer A} {after : A → Stepped}
-        (acts : Acts (insideMemory code operand next) mem (machineIn cells returns frames levels g) said after)
+        (acts : Acts (inReach reach code operand next) mem (machineIn cells returns frames levels g) said after)
       where
         -- a check refuses: the run is over
         pub ends : {number : ℕ} → said ≡ refuses number → {heard : Answer A} → heard ≡ said → {g′ : Registers} → g′ ≡ haltedBy heard g →
-            Round mem₀ m₀ budget mem cells returns frames levels g′
+            Round reach inTurns mem₀ m₀ budget mem cells returns frames levels g′
         ends {number} e {heard} eh eg =
             over-with (found .round) (found .less) (is-step ∙ by-refusal acts e) (eg ∙ ap (λ (a : Answer A). haltedBy a g) (eh ∙ e))
 
@@ -175,18 +277,6 @@ module _ {mem₀ : List ℕ} {m₀ : Machine} {budget : ℕ} {mem cells returns 
             {mem′ cells′ returns′ : List ℕ} {frames′ : List Frame} {levels′ : List Level} {moved : Registers} {cost : ℕ} →
             after values ≡ done mem′ (machineIn cells′ returns′ frames′ levels′ moved) cost → countsOf moved ≡ countsOf g →
             {price : ℕ} → price ≡ cost → {g′ : Registers} → g′ ≡ countedTo moved price →
-            Round mem₀ m₀ budget mem′ cells′ returns′ frames′ levels′ g′
-        goes {values} e {mem′} {cells′} {returns′} {frames′} {levels′} {moved} {cost} ea same {price} ep {g′} eg =
-            let old = machineIn cells returns frames levels g in
-            let new = machineIn cells′ returns′ frames′ levels′ moved in
-            let now = found .round .going (found .less) in
-            let within = found .round .left-within in
-            let less = found .less in
-            let left : moved .left .0 ≡ g .left .0 = ap (λ x. x .0 .0) same in
-            let cycles : moved .cycles .0 ≡ g .cycles .0 = ap (λ x. x .1 .0 .0) same in
-            let answer : moved .answer ≡ g .answer = ap (λ x. x .1 .1 .0) same in
-            let unspent : moved .unspent .0 ≡ g .unspent .0 = ap (λ x. x .1 .1 .1 .0) same in
-            subst⁻¹ (Round mem₀ m₀ budget mem′ cells′ returns′ frames′ levels′) eg
-            (round-here (answer ∙ now .unanswered) (unspent ∙ now .none) (omega arith)
-            (advances mem₀ m₀ budget mem old (budget - g .left .0) (g .cycles .0) mem′ new cost (budget - (moved .left .0 - 1)) (moved .cycles .0 + price)
-            (now .here) (omega arith) (is-step ∙ (by-gift acts e ∙ ea)) (omega arith) (omega arith)))
+            Round reach inTurns mem₀ m₀ budget mem′ cells′ returns′ frames′ levels′ g′
+        goes e {mem′} {cells′} {returns′} {frames′} {levels′} ea same ep eg =
+            subst⁻¹ (Round reach inTurns mem₀ m₀ budget mem′ cells′ returns′ frames′ levels′) eg (on (by-gift acts e ∙ ea) same ep (no-pause (acts .on)))

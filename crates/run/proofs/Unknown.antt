@@ -10,6 +10,7 @@ use lib.Dec.{eqb}
 use lib.ListN.{getD}
 use Rattle.plain.specs.Choice.{pick}
 use Rattle.plain.specs.Answer.{refuses}
+use Rattle.machine.specs.Reach.{barOf}
 use Rattle.machine.specs.Codes.{Entry, unknown, entryAt, table}
 use Rattle.machine.specs.Rows.{rowOf}
 use Rattle.machine.specs.Step.{carried}
@@ -42,5 +43,5 @@ either-way false e = refl
 -- an unknown code is refused with 4, and alters no cell
 pub unknown-refused : (code operand next p flag : ℕ) (cells : List ℕ) → entryAt code ≡ unknown →
     CarriesOut code operand next cells p flag cells (refuses 4)
-unfolding rowOf carried
-unknown-refused code operand next p flag cells e mem rest = (rw e, refl)
+unfolding rowOf carried barOf
+unknown-refused code operand next p flag cells e reach mem rest = (rw e, refl)

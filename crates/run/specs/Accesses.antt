@@ -1,28 +1,30 @@
--- Where a fetch or a store reaches: by the width that its code names and the place of its address.
+-- Where a fetch or a store reaches, by the address on top of the parameter cells.
 use mathlib.Core.List.{List}
-use Prim.Native.Nat.{ℕ, _-_}
-use lib.Dec.{ltb, eqb}
+use Prim.Native.Nat.{ℕ, _+_, _-_, _≤_}
+use lib.Dec.{ltb}
 use lib.ListN.{getD}
-use Rattle.plain.specs.Answer.{Answer, refuses, gives}
+use Rattle.plain.specs.Answer.{Answer, refuses}
 use Rattle.plain.specs.Choice.{pick}
-use Rattle.machine.specs.Memory.{placeOf}
+use Rattle.machine.specs.declared.Reach.{Reach}
 use Rattle.machine.specs.declared.Width.{Width}
-use Rattle.machine.specs.declared.Width.the-variants.{Byte, Word, Long}
 use Rattle.machine.specs.declared.Place.{Place}
-use Rattle.machine.specs.declared.Place.the-variants.{Memory, Local, Cell, Nowhere}
-use Rattle.run.specs.declared.Spot.{Spot}
-use Rattle.run.specs.declared.Spot.the-variants as spot
+use Rattle.machine.specs.Memory.{size}
+use Rattle.reach.specs.Spots.{spotOf}
+use Rattle.reach.specs.declared.Spot.{Spot}
+use Rattle.reach.specs.declared.Spot.the-variants as spot
+use Rattle.reach.specs.declared.Reached.{Reached}
+use Rattle.reach.specs.declared.Reached.the-variants as reached
 
--- FETCH.L and STORE.L, FETCH.W and STORE.W, FETCH.B and STORE.B
-abbrev pub widthOf : ℕ → Width
-widthOf code =
-    pick (eqb code 0x2D) Long (pick (eqb code 0x2E) Long (pick (eqb code 0x2F) Word (pick (eqb code 0x30) Word Byte)))
+unfoldable pub reachOf : Reach → ℕ → Width → List ℕ → ℕ → Answer Place
+reachOf reach takes w cells p = pick (ltb p takes) (refuses 5) (spotOf reach w (getD cells (p - 1) 0))
 
-abbrev pub spotOf : Place → Answer Spot
-spotOf (Memory a) = gives (spot.Memory a)
-spotOf (Local k) = gives (spot.Local k)
-spotOf (Cell k) = gives (spot.Cell k)
-spotOf Nowhere = refuses 12
+-- an access that is told apart as one to the own part lies wholly in it
+abbrev pub SpotWithin : Reach → Width → Spot → Type 0
+SpotWithin reach w (spot.Memory a) = Unit {0}
+SpotWithin reach w (spot.Own a) = (reach .own ≤ a) × (a + size w ≤ reach .end)
+SpotWithin reach w (spot.Local k) = Unit {0}
+SpotWithin reach w (spot.Cell k) = Unit {0}
 
-unfoldable pub reachOf : ℕ → Width → List ℕ → ℕ → Answer Spot
-reachOf takes w cells p = pick (ltb p takes) (refuses 5) (spotOf (placeOf w (getD cells (p - 1) 0)))
+abbrev pub OwnWithin : Reach → Width → Reached → Type 0
+OwnWithin reach w (reached.At spot) = SpotWithin reach w spot
+OwnWithin reach w (reached.Refused number) = Unit {0}

@@ -2,7 +2,8 @@
 use Rattle.plain.specs.Answer.{Answer, refuses, gives}
 use Rattle.machine.specs.Fetch.{Instruction}
 use Rattle.machine.specs.Step.{Stepped, refused}
-use Rattle.run.specs.Machines.{insideMemory}
+use Rattle.machine.specs.declared.Reach.{Reach}
+use Rattle.run.specs.Machines.{inReach}
 use Rattle.run.specs.declared.Fetched.{Fetched}
 use Rattle.run.specs.declared.Fetched.the-variants as fetched
 use Rattle.run.specs.declared.Checked.{Checked}
@@ -12,16 +13,14 @@ use Rattle.run.specs.declared.Exit.the-variants as exit
 use Rattle.run.specs.declared.Throw.{Throw}
 use Rattle.run.specs.declared.Thrown.{Thrown}
 use Rattle.run.specs.declared.Thrown.the-variants as thrown
-use Rattle.run.specs.declared.Spot.{Spot}
-use Rattle.run.specs.declared.Reached.{Reached}
-use Rattle.run.specs.declared.Reached.the-variants as reached
 use Rattle.run.specs.declared.Stack.{Stack}
 use Rattle.run.specs.declared.Done.{Done}
 use Rattle.run.specs.declared.Done.the-variants as done
 
-abbrev pub saysFetched : Fetched → Answer Instruction
-saysFetched (fetched.Instruction code operand next) = gives (insideMemory code operand next)
-saysFetched (fetched.Refused number) = refuses number
+-- whoever fetches it
+abbrev pub saysFetched : Fetched → Reach → Answer Instruction
+saysFetched (fetched.Instruction code operand next) reach = gives (inReach reach code operand next)
+saysFetched (fetched.Refused number) reach = refuses number
 
 abbrev pub saysChecked : Checked → Answer (Unit {0})
 saysChecked checked.Fine = gives tt
@@ -35,10 +34,6 @@ saysExit exit.Program = refuses 0
 abbrev pub saysThrown : Thrown → Answer Throw
 saysThrown (thrown.Found throw) = gives throw
 saysThrown (thrown.Refused number) = refuses number
-
-abbrev pub saysReached : Reached → Answer Spot
-saysReached (reached.At spot) = gives spot
-saysReached (reached.Refused number) = refuses number
 
 abbrev pub saysDone : Done → Answer Stack
 saysDone (done.Went stack) = gives stack

@@ -8,5 +8,7 @@ pub mod Accesses
 pub mod Operations
 -- what the registers become
 pub mod Registers
+-- what a run of tasks counts
+pub mod Clocks
 -- what the functions on the parameter cells and the fetch promise
 pub mod Promises

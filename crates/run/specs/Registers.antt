@@ -1,7 +1,9 @@
 -- The run's registers: the machine that they make with its arrays, and what they become.
+use mathlib.Core.Bool.{Bool}
 use mathlib.Core.List.{List}
 use Prim.Native.Nat.{ℕ, _+_, _-_}
 use Rattle.plain.specs.Answer.{Answer, refuses, gives}
+use Rattle.plain.specs.Choice.{pick}
 use Rattle.links.specs.declared.Frame.{Frame}
 use Rattle.links.specs.declared.Level.{Level}
 use Rattle.machine.specs.declared.Machine.{Machine}
@@ -59,6 +61,10 @@ countedTo g price = talliedTo g (record { 0 = g .left .0 - 1 }) (record { 0 = g 
 -- the run is over: nothing is left to spend, and what was not spent is kept
 abbrev pub haltedAt : Registers → ℕ → Registers
 haltedAt g answer = talliedTo g (record { 0 = 0 }) (g .cycles) answer (g .left)
+
+-- a PAUSE ends a turn as a spent budget does
+abbrev pub pausedAt : Registers → Bool → Registers
+pausedAt g inTurns = pick inTurns (haltedAt g 1) g
 
 -- an answer that refuses ends the run with its number
 abbrev pub haltedBy : {A : Type 0} → Answer A → Registers → Registers

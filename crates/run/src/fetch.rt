@@ -2,14 +2,19 @@
 use crate::Fetched;
 use crate::memory;
 use machine::Machine;
+use machine::Reach;
+use reach::Barring;
 ghost use mathlib.Core.Path.{_≡_};
 ghost use Prim.Native.Nat.{_+_, _<_, _≤_};
 ghost use lib.ListN.{length};
 ghost use Rattle.numbers.specs.Bytes.{byteAt};
 ghost use Rattle.machine.specs.Limits.{memoryLength};
+ghost use Rattle.machine.specs.Reach.{isForeign};
+ghost use Rattle.machine.specs.Codes.{bytesWith, entryAt};
 ghost use Rattle.machine.specs.Fetch.{instructionAt};
+ghost use Rattle.reach.specs.Bars.{saysBarred};
 ghost use Rattle.run.specs.Answers.{saysFetched};
-ghost use Rattle.run.specs.Promises.{fetchedOf, FetchedAt, OneByte};
+ghost use Rattle.run.specs.Promises.{Fetches, FetchedAt, OneByte};
 
 fn literal_byte(mem: &[u8], counter: u32) -> Fetched
     requires { ⌜ (counter < memoryLength) × (length (now mem) ≡ memoryLength) ⌝ }
@@ -75,7 +80,7 @@ fn subroutine(mem: &[u8], counter: u32) -> Fetched
 // BEQ or BRA with the address that it names.
 fn branch(mem: &[u8], counter: u32, code: u8) -> Fetched
     requires { ⌜ (counter < memoryLength) × ((length (now mem) ≡ memoryLength) × ((0x80 ≤ code) × (byteAt (now mem) counter ≡ code))) ⌝ }
-    ensures { λ r. ⌜ saysFetched r ≡ fetchedOf (instructionAt (now (mem .entry)) counter) ⌝ }
+    ensures { λ r. ⌜ Fetches (now (mem .entry)) counter (saysFetched r) ⌝ }
 {
     let at = counter as usize;
     if Machine::MEMORY < at + 2 {
@@ -89,14 +94,14 @@ fn branch(mem: &[u8], counter: u32, code: u8) -> Fetched
 // Every other code below 80 is one byte, the unknown ones too.
 fn plain(mem: &[u8], counter: u32, code: u8) -> Fetched
     requires { ⌜ (counter < memoryLength) × ((length (now mem) ≡ memoryLength) × (((code < 0x80) × OneByte code) × (byteAt (now mem) counter ≡ code))) ⌝ }
-    ensures { λ r. ⌜ saysFetched r ≡ fetchedOf (instructionAt (now (mem .entry)) counter) ⌝ }
+    ensures { λ r. ⌜ Fetches (now (mem .entry)) counter (saysFetched r) ⌝ }
 {
     Fetched::Instruction(code, 0, std::num::wrapping_add_u32(counter, 1))
 }
 
 pub(crate) fn fetch(mem: &[u8], counter: u32) -> Fetched
     requires { ⌜ length (now mem) ≡ memoryLength ⌝ }
-    ensures { λ r. ⌜ saysFetched r ≡ fetchedOf (instructionAt (now (mem .entry)) counter) ⌝ }
+    ensures { λ r. ⌜ Fetches (now (mem .entry)) counter (saysFetched r) ⌝ }
 {
     let at = counter as usize;
     if Machine::MEMORY <= at {
@@ -117,4 +122,45 @@ pub(crate) fn fetch(mem: &[u8], counter: u32) -> Fetched
         0x38 => subroutine(mem, counter),
         _ => plain(mem, counter, code),
     }
+}
+
+// How many bytes an instruction has.
+fn length_of(code: u8) -> u8
+    ensures { λ r. ⌜ r ≡ bytesWith (entryAt code .operand) ⌝ }
+{
+    if 0x7F < code {
+        return 2;
+    }
+    match code {
+        0x34 => 2,
+        0x35 => 3,
+        0x36 => 5,
+        0x38 => 4,
+        _ => 1,
+    }
+}
+
+// What bars the instruction at the counter: its first byte is tested before it is read.
+fn barred(mem: &[u8], reach: Reach, counter: u32) -> Barring
+    requires { ⌜ length (now mem) ≡ memoryLength ⌝ }
+    ensures { λ r. ⌜ saysBarred r ≡ instructionAt reach (now (mem .entry)) counter .bar ⌝ }
+{
+    let first = reach::barred(reach, counter, 1);
+    match first {
+        Barring::None => reach::barred(reach, counter, length_of(mem[counter as usize])),
+        Barring::Outside => Barring::Outside,
+        Barring::Foreign => Barring::Foreign,
+    }
+}
+
+// Whether a byte of the instruction at the counter is in another's part.
+pub(crate) fn foreign(mem: &[u8], reach: Reach, counter: u32) -> bool
+    requires { ⌜ (length (now mem) ≡ memoryLength) × (reach .shared ≤ memoryLength) ⌝ }
+    ensures { λ r. ⌜ r ≡ isForeign (instructionAt reach (now (mem .entry)) counter .bar) ⌝ }
+{
+    // no instruction has more than five bytes
+    if counter as usize + 5 <= reach.shared {
+        return false;
+    }
+    reach::is_foreign(barred(mem, reach, counter))
 }

@@ -3,16 +3,18 @@ use crate::Checked;
 use crate::Done;
 use crate::Exit;
 use crate::Fetched;
-use crate::Reached;
 use crate::Registers;
 use crate::Thrown;
 use crate::tally;
+use reach::Reached;
 ghost use mathlib.Core.Path.{_≡_};
-ghost use Rattle.run.specs.Answers.{saysChecked, saysDone, saysExit, saysFetched, saysReached, saysThrown};
+ghost use Rattle.machine.specs.Reach.{alone};
+ghost use Rattle.reach.specs.Spots.{saysReached};
+ghost use Rattle.run.specs.Answers.{saysChecked, saysDone, saysExit, saysFetched, saysThrown};
 ghost use Rattle.run.specs.Registers.{haltedBy};
 
 pub(crate) fn by_fetch(regs: Registers, fetched: Fetched) -> Registers
-    ensures { λ g. ⌜ g ≡ haltedBy (saysFetched fetched) regs ⌝ }
+    ensures { λ g. ⌜ g ≡ haltedBy (saysFetched fetched alone) regs ⌝ }
 {
     match fetched {
         Fetched::Instruction(_, _, _) => regs,

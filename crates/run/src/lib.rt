@@ -9,18 +9,30 @@ mod formed;
 mod jumps;
 mod leave;
 mod memory;
-mod place;
 mod price;
 mod round;
 mod tally;
+mod ticks;
+mod turns;
 mod view;
 
 use machine::Cycles;
 use machine::Machine;
 use machine::Ran;
+use machine::RanTasks;
+use machine::Reach;
 use machine::Steps;
+use machine::Tasks;
 ghost use mathlib.Core.Path.{_≡_};
 ghost use Rattle.machine.specs.Run.{runOf, afterOf};
+ghost use Rattle.machine.specs.Tasks.{RunsTasks, tasksIn, tasksAfterOf};
+
+// A machine that is alone may touch all of memory.
+const ALONE: Reach = Reach {
+    shared: Machine::MEMORY,
+    own: 0,
+    end: 0,
+};
 
 // Runs a machine on a lent memory of any length, under a budget of any number of steps. Memory of another length than
 // 32,768, a budget above 1,000,000 or a state that is not well formed answers 2 and alters nothing.
@@ -34,9 +46,30 @@ pub fn run(mem: &mut [u8], machine: Machine, budget: u32) -> Ran
         return round::ended(2, Steps(0), Cycles(0), machine);
     }
     if formed::well_formed(machine) {
-        return round::rounds(mem, machine, budget);
+        return round::rounds(mem, machine, budget, ALONE, false);
     }
     round::ended(2, Steps(0), Cycles(0), machine)
+}
+
+// Runs four tasks on a lent memory of any length, in turns of at most a quantum of steps, under a budget of any number of steps
+// for all of them. Memory of another length than 32,768, a budget above 1,000,000, a quantum that is not 1 to 1,000, a state
+// that is not well formed or a kept number that no task can have answers 2 and alters nothing.
+pub fn run_tasks(mem: &mut [u8], tasks: Tasks, quantum: u32, budget: u32) -> RanTasks
+    ensures { λ ran. ⌜ RunsTasks (now (mem .entry)) (tasksIn tasks) quantum budget (tasksAfterOf (now (mem .exit)) ran) ⌝ }
+{
+    if mem.len() != Machine::MEMORY {
+        return turns::ended(2, Steps(0), Cycles(0), tasks);
+    }
+    if Machine::BUDGET < budget {
+        return turns::ended(2, Steps(0), Cycles(0), tasks);
+    }
+    if !formed::quantum(quantum) {
+        return turns::ended(2, Steps(0), Cycles(0), tasks);
+    }
+    if formed::tasks(tasks) {
+        return turns::turns(mem, tasks, quantum, budget);
+    }
+    turns::ended(2, Steps(0), Cycles(0), tasks)
 }
 
 // The instruction at the program counter: its code, its operand and the address of the following one; or a refusal's number.
@@ -83,19 +116,6 @@ enum Thrown {
     Refused(u32),
 }
 
-// Where a fetch or a store reaches: memory from this address, this local of level S, this cell of level E.
-enum Spot {
-    Memory(usize),
-    Local(usize),
-    Cell(usize),
-}
-
-// An access reaches a place, or is refused.
-enum Reached {
-    At(Spot),
-    Refused(u32),
-}
-
 // P, R, S, E, the program counter and the flag; what is left of the budget and the cycles so far; and, once the run is over,
 // its answer with what it did not spend.
 struct Registers {
@@ -109,4 +129,14 @@ struct Registers {
     cycles: Cycles,
     answer: u32,
     unspent: Steps,
+}
+
+// Which task is asked first, what is left of the budget and the cycles so far; and, once the run of tasks is over, its answer
+// with what it did not spend.
+struct Clock {
+    from: usize,
+    left: Steps,
+    unspent: Steps,
+    cycles: Cycles,
+    answer: u32,
 }

@@ -6,7 +6,7 @@ ghost use lib.Seq.{sets};
 ghost use Rattle.numbers.specs.Bytes.{numberAt, bytesOf};
 ghost use Rattle.machine.specs.Fetch.{extended};
 ghost use Rattle.machine.specs.Memory.{size};
-ghost use Rattle.run.specs.Accesses.{widthOf};
+ghost use Rattle.reach.specs.Spots.{widthOf};
 
 pub(crate) fn read_byte(mem: &[u8], at: usize) -> u32
     requires { ⌜ at + 1 ≤ length (now mem) ⌝ }
@@ -71,4 +71,12 @@ pub(crate) fn write_number(mem: &mut [u8], at: usize, code: u8, value: u32)
         _ => numbers::write_one(mem, at, value),
     }
     ;
+}
+
+// The same in a part of memory, which alone is lent on.
+pub(crate) fn write_own(mem: &mut [u8], own: usize, end: usize, at: usize, code: u8, value: u32)
+    requires { ⌜ (own ≤ at) × ((at + size (widthOf code) ≤ end) × (end ≤ length (now mem))) ⌝ }
+    ensures { λ r. ⌜ now (mem .exit) ≡ sets (now (mem .entry)) at (bytesOf (size (widthOf code)) value) ⌝ }
+{
+    write_number(&mut mem[own..end], at - own, code, value);
 }

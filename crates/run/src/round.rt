@@ -3,9 +3,7 @@ use crate::Checked;
 use crate::Done;
 use crate::Exit;
 use crate::Fetched;
-use crate::Reached;
 use crate::Registers;
-use crate::Spot;
 use crate::Throw;
 use crate::Thrown;
 use crate::access;
@@ -24,7 +22,10 @@ use machine::CYCLES;
 use machine::Cycles;
 use machine::Machine;
 use machine::Ran;
+use machine::Reach;
 use machine::Steps;
+use reach::Reached;
+use reach::Spot;
 ghost use mathlib.Core.Path.{_≡_};
 ghost use mathlib.Core.Bool.{true};
 ghost use mathlib.Core.List.{List};
@@ -32,6 +33,7 @@ ghost use Prim.Native.Nat.{ℕ, _-_, _≤_};
 ghost use Rattle.machine.specs.Run.{acceptable, runFrom, afterOf};
 ghost use Rattle.machine.specs.Run as run;
 ghost use Rattle.run.specs.Machines.{ranOf};
+ghost use Rattle.run.specs.Promises.{Bounded};
 ghost use Rattle.run.specs.Registers.{machineIn};
 
 pub(crate) fn ended(answer: u32, steps: Steps, cycles: Cycles, machine: Machine) -> Ran
@@ -79,9 +81,9 @@ fn finished(
 // Each round is one step: the instruction is fetched and its checks are made, and what refuses it ends the run; then the
 // run's own arrays and its registers are changed in place. The loop's own test is the one way out: a run that no answer ends
 // has spent its budget, answer 1.
-pub(crate) fn rounds(mem: &mut [u8], start: Machine, budget: u32) -> Ran
-    requires { ⌜ acceptable (now mem) start budget ≡ true ⌝ }
-    ensures { λ ran. ⌜ afterOf (now (mem .exit)) ran ≡ runFrom budget (now (mem .entry)) start 0 0 ⌝ }
+pub(crate) fn rounds(mem: &mut [u8], start: Machine, budget: u32, reach: Reach, turns: bool) -> Ran
+    requires { ⌜ (acceptable (now mem) start budget ≡ true) × Bounded reach ⌝ }
+    ensures { λ ran. ⌜ afterOf (now (mem .exit)) ran ≡ runFrom reach turns budget (now (mem .entry)) start 0 0 ⌝ }
 {
     let costs = CYCLES;
     let links = start.links;
@@ -102,6 +104,10 @@ pub(crate) fn rounds(mem: &mut [u8], start: Machine, budget: u32) -> Ran
         unspent: Steps(0),
     };
     while 0 < regs.left.0 {
+        if fetch::foreign(mem, reach, regs.counter) {
+            regs = tally::halted(regs, 17);
+            continue;
+        }
         let fetched = fetch::fetch(mem, regs.counter);
         let Fetched::Instruction(code, operand, next) = fetched else {
             regs = leave::by_fetch(regs, fetched);
@@ -239,13 +245,18 @@ pub(crate) fn rounds(mem: &mut [u8], start: Machine, budget: u32) -> Ran
             }
             // FETCH.L, FETCH.W, FETCH.B ( address -- value )
             0x2D | 0x2F | 0x31 => {
-                let reached = access::reach(&cells, 1, code, p);
+                let reached = access::reach(&cells, reach, 1, code, p);
                 let Reached::At(spot) = reached else {
                     regs = leave::by_reach(regs, reached);
                     continue;
                 };
                 match spot {
                     Spot::Memory(at) => {
+                        cells[p - 1] = memory::read_number(mem, at, code);
+                        regs.counter = next;
+                        regs = tally::counted(regs, price::price(&costs, code));
+                    }
+                    Spot::Own(at) => {
                         cells[p - 1] = memory::read_number(mem, at, code);
                         regs.counter = next;
                         regs = tally::counted(regs, price::price(&costs, code));
@@ -266,7 +277,7 @@ pub(crate) fn rounds(mem: &mut [u8], start: Machine, budget: u32) -> Ran
             }
             // STORE.L, STORE.W, STORE.B ( value address -- )
             0x2E | 0x30 | 0x32 => {
-                let reached = access::reach(&cells, 2, code, p);
+                let reached = access::reach(&cells, reach, 2, code, p);
                 let Reached::At(spot) = reached else {
                     regs = leave::by_reach(regs, reached);
                     continue;
@@ -274,6 +285,12 @@ pub(crate) fn rounds(mem: &mut [u8], start: Machine, budget: u32) -> Ran
                 match spot {
                     Spot::Memory(at) => {
                         memory::write_number(mem, at, code, cells[p - 2]);
+                        regs.p = p - 2;
+                        regs.counter = next;
+                        regs = tally::counted(regs, price::price(&costs, code));
+                    }
+                    Spot::Own(at) => {
+                        memory::write_own(mem, reach.own, reach.end, at, code, cells[p - 2]);
                         regs.p = p - 2;
                         regs.counter = next;
                         regs = tally::counted(regs, price::price(&costs, code));
@@ -346,6 +363,13 @@ pub(crate) fn rounds(mem: &mut [u8], start: Machine, budget: u32) -> Ran
                 regs.r = frame.r;
                 regs.counter = frame.address;
                 regs = tally::counted(regs, price::price(&costs, code));
+            }
+            // PAUSE is a NOP but that it may pass the turn; its one cycle stands outside the table
+            0x3E => {
+                regs.counter = next;
+                regs = tally::counted(regs, price::price(&costs, code));
+                regs = tally::paused(regs, turns);
+                continue;
             }
             _ => {
                 let done = dispatch::on_cells(code, operand, next, &mut cells, p, regs.flag);

@@ -5,7 +5,7 @@ use machine::Steps;
 ghost use mathlib.Core.Path.{_≡_};
 ghost use Prim.Native.Nat.{_*_, _<_, _≤_};
 ghost use Rattle.machine.specs.Limits.{mostBudget};
-ghost use Rattle.run.specs.Registers.{countedTo, haltedAt};
+ghost use Rattle.run.specs.Registers.{countedTo, haltedAt, pausedAt};
 
 // One more step, and its cycles.
 pub(crate) fn counted(regs: Registers, price: u32) -> Registers
@@ -31,4 +31,14 @@ pub(crate) fn halted(regs: Registers, answer: u32) -> Registers
     after.unspent = unspent;
     after.left = nothing;
     after
+}
+
+// A PAUSE ends a turn as a spent budget does, and nothing where no turns are taken.
+pub(crate) fn paused(regs: Registers, turns: bool) -> Registers
+    ensures { λ g. ⌜ (g ≡ pausedAt regs turns) × (g .left .0 ≤ regs .left .0) ⌝ }
+{
+    if turns {
+        return halted(regs, 1);
+    }
+    regs
 }

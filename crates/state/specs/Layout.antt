@@ -6,6 +6,8 @@ use Rattle.links.specs.Depths.{cellsDepth, returnsDepth, framesCount, levelsCou
 use Rattle.links.specs.declared.Frame.{Frame}
 use Rattle.links.specs.declared.Level.{Level}
 use Rattle.links.specs.declared.Links.{Links}
+use Rattle.machine.specs.Limits.{tasksCount}
+use Rattle.machine.specs.Tasks.{Task}
 use Rattle.machine.specs.declared.Machine.{Machine}
 use Rattle.machine.specs.declared.Steps.{Steps}
 use Rattle.machine.specs.declared.Cycles.{Cycles}
@@ -57,6 +59,17 @@ stateFields =
 
 abbrev pub state : Part Machine
 state = fields stateFields
+
+-- a task: its machine, the number that it keeps
+abbrev pub taskFields : List (Field Task)
+taskFields = state of (λ t. t .machine) ∷ pointer of (λ t. t .kept) ∷ []
+
+abbrev pub task : Part Task
+task = fields taskFields
+
+-- four tasks, one after the other
+abbrev pub tasks : Part (List Task)
+tasks = array tasksCount task
 
 -- what a run counted, each number as wide as a pointer
 pub record Counted : Type 0 where

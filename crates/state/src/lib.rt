@@ -7,10 +7,13 @@ mod writing;
 use machine::Cycles;
 use machine::Machine;
 use machine::Steps;
+use machine::Tasks;
 pub use places::RESULT;
 pub use places::SIZE;
+pub use places::TASKS;
 ghost use Rattle.state.specs.Layout as layout;
-ghost use Rattle.state.specs.Promise.{saysVerdict, Takes, Gives};
+ghost use Rattle.machine.specs.Tasks.{tasksIn};
+ghost use Rattle.state.specs.Promise.{saysVerdict, Takes, TakesTasks, Gives};
 
 // A buffer of the right length has no answer number.
 pub enum Verdict {
@@ -35,20 +38,7 @@ pub fn take(state: &[u8]) -> Taken
             machine,
         };
     }
-    let mut cells = [0u32; Machine::CELLS];
-    reading::fill(state, places::STATE_CELLS, &mut cells);
-    let p = reading::pointer_at(state, places::STATE_P);
-    let counter = reading::cell_at(state, places::STATE_COUNTER);
-    let flag = reading::cell_at(state, places::STATE_FLAG);
-    // the linked stacks last, as their frames are (docs/DECISIONS.md)
-    let links = reading::links_at(state, places::STATE_LINKS);
-    let machine = Machine {
-        cells,
-        p,
-        links,
-        counter,
-        flag,
-    };
+    let machine = reading::machine_at(state, 0);
     Taken {
         verdict: Verdict::Good,
         machine,
@@ -62,13 +52,44 @@ pub fn give(machine: Machine, state: &mut [u8]) -> Verdict
     if state.len() != SIZE {
         return Verdict::Refused(2);
     }
-    let cells = machine.cells;
-    let links = machine.links;
-    writing::put_array(state, places::STATE_CELLS, &cells);
-    writing::put_pointer(state, places::STATE_P, machine.p);
-    writing::put_links(state, places::STATE_LINKS, links);
-    writing::put_cell(state, places::STATE_COUNTER, machine.counter);
-    writing::put_cell(state, places::STATE_FLAG, machine.flag);
+    writing::put_machine(state, 0, machine);
+    Verdict::Good
+}
+
+// After a refusal the machines are fresh, and no task is ready.
+pub struct TakenTasks {
+    pub verdict: Verdict,
+    pub tasks: Tasks,
+}
+
+// Every buffer of the right length spells four tasks, acceptable or not: a run of tasks judges that.
+pub fn take_tasks(bytes: &[u8]) -> TakenTasks
+    ensures { λ r. ⌜ TakesTasks (now (bytes .entry)) (saysVerdict (r .verdict)) (r .tasks) ⌝ }
+{
+    if bytes.len() != TASKS {
+        let tasks = reading::blank_tasks();
+        return TakenTasks {
+            verdict: Verdict::Refused(2),
+            tasks,
+        };
+    }
+    let tasks = reading::tasks_at(bytes, 0);
+    TakenTasks {
+        verdict: Verdict::Good,
+        tasks,
+    }
+}
+
+// The whole buffer is written, or nothing of it.
+pub fn give_tasks(tasks: Tasks, bytes: &mut [u8]) -> Verdict
+    ensures { λ r. ⌜ Gives layout.tasks (tasksIn tasks) (now (bytes .entry)) (saysVerdict r) (now (bytes .exit)) ⌝ }
+{
+    if bytes.len() != TASKS {
+        return Verdict::Refused(2);
+    }
+    let machines = tasks.machines;
+    let kept = tasks.kept;
+    writing::put_tasks(bytes, 0, machines, kept);
     Verdict::Good
 }
 

@@ -3,6 +3,7 @@ use links::Frame;
 use links::Level;
 use links::Links;
 use machine::Machine;
+use machine::Tasks;
 
 pub(crate) const CELL: usize = 4;
 
@@ -39,9 +40,7 @@ pub(crate) const LINKS_E: usize = LINKS_LEVELS + Links::LEVELS * LEVEL;
 pub(crate) const LINKS: usize = LINKS_E + POINTER;
 
 // The machine: parameter cells, P, linked stacks, counter, flag.
-pub(crate) const STATE_CELLS: usize = 0;
-
-pub(crate) const STATE_P: usize = STATE_CELLS + Machine::CELLS * CELL;
+pub(crate) const STATE_P: usize = Machine::CELLS * CELL;
 
 pub(crate) const STATE_LINKS: usize = STATE_P + POINTER;
 
@@ -50,6 +49,14 @@ pub(crate) const STATE_COUNTER: usize = STATE_LINKS + LINKS;
 pub(crate) const STATE_FLAG: usize = STATE_COUNTER + CELL;
 
 pub const SIZE: usize = STATE_FLAG + CELL;
+
+// A task: its machine, the number that it keeps.
+pub(crate) const TASK_KEPT: usize = SIZE;
+
+pub(crate) const TASK: usize = TASK_KEPT + POINTER;
+
+// Four tasks, one after the other.
+pub const TASKS: usize = Tasks::COUNT * TASK;
 
 // What a run counted: answer, steps and cycles, each as wide as a pointer.
 pub(crate) const RESULT_ANSWER: usize = 0;

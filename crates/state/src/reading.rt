@@ -3,15 +3,20 @@ use crate::places;
 use links::Frame;
 use links::Level;
 use links::Links;
+use machine::Machine;
+use machine::Tasks;
+ghost use mathlib.Core.Path.{_≡_};
 ghost use Prim.Native.Nat.{_+_, _≤_};
 ghost use lib.ListN.{length};
 ghost use Rattle.links.specs.Depths.{framesCount, levelsCount};
 ghost use Rattle.state.specs.Parts.{array};
 ghost use Rattle.state.specs.Layout as layout;
+ghost use Rattle.machine.specs.Tasks.{tasksIn, Four};
 ghost use Rattle.state.specs.Places.{PartStands};
+ghost use Rattle.state.specs.Promise.{blankTasks};
 
 // No place is outside: the answer that says so never comes.
-pub(crate) fn cell_at(state: &[u8], at: usize) -> u32
+fn cell_at(state: &[u8], at: usize) -> u32
     requires { ⌜ at + layout.cell .width ≤ length (now state) ⌝ }
     ensures { λ r. ⌜ PartStands layout.cell (now (state .entry)) at r ⌝ }
 {
@@ -22,7 +27,7 @@ pub(crate) fn cell_at(state: &[u8], at: usize) -> u32
     value
 }
 
-pub(crate) fn pointer_at(state: &[u8], at: usize) -> usize
+fn pointer_at(state: &[u8], at: usize) -> usize
     requires { ⌜ at + layout.pointer .width ≤ length (now state) ⌝ }
     ensures { λ r. ⌜ PartStands layout.pointer (now (state .entry)) at r ⌝ }
 {
@@ -34,7 +39,7 @@ pub(crate) fn pointer_at(state: &[u8], at: usize) -> usize
 }
 
 // As many cells as there are to fill.
-pub(crate) fn fill(state: &[u8], from: usize, cells: &mut [u32])
+fn fill(state: &[u8], from: usize, cells: &mut [u32])
     requires { ⌜ from + array (length (now cells)) layout.cell .width ≤ length (now state) ⌝ }
     ensures { λ _. ⌜ PartStands (array (length (now (cells .entry))) layout.cell) (now (state .entry)) from (now (cells .exit)) ⌝ }
 {
@@ -111,7 +116,7 @@ fn levels_at(state: &[u8], from: usize) -> [Level; Links::LEVELS]
     levels
 }
 
-pub(crate) fn links_at(state: &[u8], at: usize) -> Links
+fn links_at(state: &[u8], at: usize) -> Links
     requires { ⌜ at + layout.links .width ≤ length (now state) ⌝ }
     ensures { λ r. ⌜ PartStands layout.links (now (state .entry)) at r ⌝ }
 {
@@ -131,4 +136,52 @@ pub(crate) fn links_at(state: &[u8], at: usize) -> Links
         levels,
         e,
     }
+}
+
+pub(crate) fn machine_at(state: &[u8], at: usize) -> Machine
+    requires { ⌜ at + layout.state .width ≤ length (now state) ⌝ }
+    ensures { λ r. ⌜ PartStands layout.state (now (state .entry)) at r ⌝ }
+{
+    let mut cells = [0u32; Machine::CELLS];
+    fill(state, at, &mut cells);
+    let p = pointer_at(state, at + places::STATE_P);
+    let counter = cell_at(state, at + places::STATE_COUNTER);
+    let flag = cell_at(state, at + places::STATE_FLAG);
+    // the linked stacks last, as their frames are (docs/DECISIONS.md)
+    let links = links_at(state, at + places::STATE_LINKS);
+    Machine {
+        cells,
+        p,
+        links,
+        counter,
+        flag,
+    }
+}
+
+// Nothing in them, and none is ready.
+pub(crate) fn blank_tasks() -> Tasks
+    ensures { λ r. ⌜ r ≡ blankTasks ⌝ }
+{
+    let blank = Machine::fresh();
+    Tasks {
+        machines: [blank; Tasks::COUNT],
+        kept: [0usize; Tasks::COUNT],
+    }
+}
+
+pub(crate) fn tasks_at(state: &[u8], from: usize) -> Tasks
+    requires { ⌜ from + layout.tasks .width ≤ length (now state) ⌝ }
+    ensures { λ r. ⌜ Four r × PartStands layout.tasks (now (state .entry)) from (tasksIn r) ⌝ }
+{
+    let blank = Machine::fresh();
+    let mut machines = [blank; Tasks::COUNT];
+    let mut kept = [0usize; Tasks::COUNT];
+    let mut i = 0;
+    while i < Tasks::COUNT {
+        let at = from + i * places::TASK;
+        machines[i] = machine_at(state, at);
+        kept[i] = pointer_at(state, at + places::TASK_KEPT);
+        i += 1;
+    }
+    Tasks { machines, kept }
 }

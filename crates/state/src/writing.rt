@@ -4,14 +4,17 @@ use crate::places;
 use links::Frame;
 use links::Level;
 use links::Links;
+use machine::Machine;
+use machine::Tasks;
 ghost use Prim.Native.Nat.{_+_, _≤_};
 ghost use lib.ListN.{length};
 ghost use Rattle.links.specs.Depths.{framesCount, levelsCount};
+ghost use Rattle.machine.specs.Tasks.{taskOf, paired};
 ghost use Rattle.state.specs.Parts.{array};
 ghost use Rattle.state.specs.Layout as layout;
 ghost use Rattle.state.specs.Places.{PartPut};
 
-pub(crate) fn put_cell(state: &mut [u8], at: usize, value: u32)
+fn put_cell(state: &mut [u8], at: usize, value: u32)
     requires { ⌜ at + layout.cell .width ≤ length (now state) ⌝ }
     ensures { λ _. ⌜ PartPut layout.cell (now (state .entry)) at value (now (state .exit)) ⌝ }
 {
@@ -26,7 +29,7 @@ pub(crate) fn put_pointer(state: &mut [u8], at: usize, value: usize)
 }
 
 // Every cell of an array, whatever its length.
-pub(crate) fn put_array(state: &mut [u8], from: usize, cells: &[u32])
+fn put_array(state: &mut [u8], from: usize, cells: &[u32])
     requires { ⌜ from + array (length (now cells)) layout.cell .width ≤ length (now state) ⌝ }
     ensures { λ _. ⌜ PartPut (array (length (now (cells .entry))) layout.cell) (now (state .entry)) from (now (cells .entry)) (now (state .exit)) ⌝ }
 {
@@ -82,7 +85,7 @@ fn put_levels(state: &mut [u8], from: usize, levels: [Level; Links::LEVELS])
     }
 }
 
-pub(crate) fn put_links(state: &mut [u8], at: usize, links: Links)
+fn put_links(state: &mut [u8], at: usize, links: Links)
     requires { ⌜ at + layout.links .width ≤ length (now state) ⌝ }
     ensures { λ _. ⌜ PartPut layout.links (now (state .entry)) at links (now (state .exit)) ⌝ }
 {
@@ -95,4 +98,42 @@ pub(crate) fn put_links(state: &mut [u8], at: usize, links: Links)
     put_pointer(state, at + places::LINKS_S, links.s);
     put_levels(state, at + places::LINKS_LEVELS, levels);
     put_pointer(state, at + places::LINKS_E, links.e);
+}
+
+pub(crate) fn put_machine(state: &mut [u8], at: usize, machine: Machine)
+    requires { ⌜ at + layout.state .width ≤ length (now state) ⌝ }
+    ensures { λ _. ⌜ PartPut layout.state (now (state .entry)) at machine (now (state .exit)) ⌝ }
+{
+    let cells = machine.cells;
+    let links = machine.links;
+    put_array(state, at, &cells);
+    put_pointer(state, at + places::STATE_P, machine.p);
+    put_links(state, at + places::STATE_LINKS, links);
+    put_cell(state, at + places::STATE_COUNTER, machine.counter);
+    put_cell(state, at + places::STATE_FLAG, machine.flag);
+}
+
+fn put_task(state: &mut [u8], at: usize, machine: Machine, kept: usize)
+    requires { ⌜ at + layout.task .width ≤ length (now state) ⌝ }
+    ensures { λ _. ⌜ PartPut layout.task (now (state .entry)) at (taskOf machine kept) (now (state .exit)) ⌝ }
+{
+    put_machine(state, at, machine);
+    put_pointer(state, at + places::TASK_KEPT, kept);
+}
+
+pub(crate) fn put_tasks(
+    state: &mut [u8],
+    from: usize,
+    machines: [Machine; Tasks::COUNT],
+    kept: [usize; Tasks::COUNT],
+)
+    requires { ⌜ from + layout.tasks .width ≤ length (now state) ⌝ }
+    ensures { λ _. ⌜ PartPut layout.tasks (now (state .entry)) from (paired machines kept) (now (state .exit)) ⌝ }
+{
+    let mut i = 0;
+    while i < Tasks::COUNT {
+        let machine = machines[i];
+        put_task(state, from + i * places::TASK, machine, kept[i]);
+        i += 1;
+    }
 }

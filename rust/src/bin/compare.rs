@@ -1,4 +1,4 @@
-//! Compares the proved machine with the model, on images and on states.
+//! Compares the proved machine with the model, on images, on states and on four tasks.
 
 use std::process::ExitCode;
 use std::time::Instant;
@@ -8,17 +8,19 @@ use glidecotton_rust::boundary::STAND_IN;
 use glidecotton_rust::budgets::edges;
 use glidecotton_rust::chains::any_state;
 use glidecotton_rust::comparison::{Comparison, Difference, Room};
+use glidecotton_rust::counts::grouped;
 use glidecotton_rust::damage::sweep;
 use glidecotton_rust::model::state::MEMORY;
 use glidecotton_rust::programs::{any_image, buffers};
 use glidecotton_rust::progress::Progress;
 use glidecotton_rust::random::Random;
-use glidecotton_rust::tally::grouped;
+use glidecotton_rust::task_chains::any_tasks;
 
 struct Plan {
     seed: u64,
     images: u64,
     states: u64,
+    tasks: u64,
 }
 
 fn plan() -> Result<Plan, ExitCode> {
@@ -27,22 +29,29 @@ fn plan() -> Result<Plan, ExitCode> {
     let seed = arguments.number("--seed", 1)?;
     let images = arguments.number("--images", if short { 400_000 } else { 3_000_000 })?;
     let states = arguments.number("--states", if short { 100_000 } else { 600_000 })?;
+    let tasks = arguments.number("--tasks", if short { 60_000 } else { 500_000 })?;
     arguments.end()?;
-    Ok(Plan { seed, images, states })
+    Ok(Plan { seed, images, states, tasks })
 }
 
 fn main() -> ExitCode {
-    let Plan { seed, images, states } = match plan() {
+    let Plan { seed, images, states, tasks } = match plan() {
         Ok(plan) => plan,
         Err(end) => return end,
     };
     let subject = if STAND_IN { "the plain C interpreter (a stand-in)" } else { "the proved machine" };
-    println!("{subject} against the model: seed {seed}, {} images, {} states", grouped(images), grouped(states));
+    println!(
+        "{subject} against the model: seed {seed}, {} images, {} states, {} runs of four tasks",
+        grouped(images),
+        grouped(states),
+        grouped(tasks)
+    );
     let start = Instant::now();
     let mut random = Random::new(seed);
     let mut comparison = Comparison::new(&mut random);
     let result = compare_images(&mut comparison, &mut random, images)
-        .and_then(|()| compare_states(&mut comparison, &mut random, states));
+        .and_then(|()| compare_runs("states compared", states, || any_state(&mut comparison, &mut random)))
+        .and_then(|()| compare_runs("runs of four tasks compared", tasks, || any_tasks(&mut comparison, &mut random)));
     if let Err(Difference(text)) = result {
         println!("A DIFFERENCE (seed {seed})\n{text}");
         return ExitCode::FAILURE;
@@ -80,12 +89,17 @@ fn compare_images(comparison: &mut Comparison, random: &mut Random, images: u64)
     Ok(())
 }
 
-fn compare_states(comparison: &mut Comparison, random: &mut Random, states: u64) -> Result<(), Difference> {
-    let mut progress = Progress::new("states compared", states);
+/// Compares runs of states or of tasks until there are as many as wanted.
+fn compare_runs(
+    what: &'static str,
+    wanted: u64,
+    mut some: impl FnMut() -> Result<u64, Difference>,
+) -> Result<(), Difference> {
+    let mut progress = Progress::new(what, wanted);
     let mut runs = 0;
-    while runs < states {
+    while runs < wanted {
         progress.done(runs);
-        runs += any_state(comparison, random)?;
+        runs += some()?;
     }
     Ok(())
 }

@@ -1,15 +1,17 @@
 //! The stack table: the most that each exported function was seen to take on a painted stack, beside the frames of
 //! its library.
 
+use std::convert::Infallible;
 use std::fs;
 use std::path::Path;
 use std::process::ExitCode;
 
 use glidecotton_rust::arguments::{refuse, Arguments};
-use glidecotton_rust::boundary::{promise, STAND_IN};
+use glidecotton_rust::boundary::{promise, promise_of_tasks, STAND_IN};
 use glidecotton_rust::budgets::edges;
 use glidecotton_rust::chains::any_state;
 use glidecotton_rust::comparison::Room;
+use glidecotton_rust::counts::grouped;
 use glidecotton_rust::damage::sweep;
 use glidecotton_rust::frames::{frames, sum, Frame};
 use glidecotton_rust::model::state::MEMORY;
@@ -17,7 +19,7 @@ use glidecotton_rust::painted::{Depth, Depths};
 use glidecotton_rust::programs::{any_image, buffers};
 use glidecotton_rust::progress::Progress;
 use glidecotton_rust::random::Random;
-use glidecotton_rust::tally::grouped;
+use glidecotton_rust::task_chains::any_tasks;
 
 const FOLDERS: [&str; 2] = ["../sheet", "../samples"];
 /// Where each library has its frames beside it.
@@ -35,6 +37,7 @@ struct Plan {
     seed: u64,
     images: u64,
     states: u64,
+    tasks: u64,
 }
 
 /// A row of the table.
@@ -42,6 +45,8 @@ struct Row {
     function: &'static str,
     depth: Depth,
     frames: Vec<Frame>,
+    /// What `glidecotton.h` says is enough.
+    promised: u64,
 }
 
 fn plan() -> Result<Plan, ExitCode> {
@@ -53,8 +58,9 @@ fn plan() -> Result<Plan, ExitCode> {
     let seed = arguments.number("--seed", 1)?;
     let images = arguments.number("--images", if short { 30_000 } else { 300_000 })?;
     let states = arguments.number("--states", if short { 15_000 } else { 150_000 })?;
+    let tasks = arguments.number("--tasks", if short { 15_000 } else { 150_000 })?;
     arguments.end()?;
-    Ok(Plan { seed, images, states })
+    Ok(Plan { seed, images, states, tasks })
 }
 
 fn main() -> ExitCode {
@@ -76,29 +82,42 @@ fn failed(why: &[String]) -> ExitCode {
 
 /// Measures and prints the table; gives what is wrong with it, or why there is none.
 fn measured(plan: &Plan) -> Result<Vec<String>, String> {
-    let [of_bench, of_read_image, of_run_state] = [
+    let [of_bench, of_read_image, of_run_state, of_run_tasks] = [
         frames_of("glidecotton", "glidecotton_bench")?,
         frames_of("reader", "glidecotton_read_image")?,
         frames_of("host", "glidecotton_run_state")?,
+        frames_of("tasks", "glidecotton_run_tasks")?,
     ];
     let mut depths = Depths::default();
     let mut random = Random::new(plan.seed);
     let written = measure_written(&mut depths)?;
     let images = measure_images(&mut depths, &mut random, plan.images);
-    let states = measure_states(&mut depths, &mut random, plan.states);
+    let states = measure_runs("states measured", plan.states, || any_state(&mut depths, &mut random));
+    let tasks = measure_runs("runs of four tasks measured", plan.tasks, || any_tasks(&mut depths, &mut random));
 
     let rows = [
-        Row { function: "glidecotton_bench", depth: depths.bench, frames: of_bench },
-        Row { function: "glidecotton_read_image", depth: depths.read_image, frames: of_read_image },
-        Row { function: "glidecotton_run_state", depth: depths.run_state, frames: of_run_state },
+        Row { function: "glidecotton_bench", depth: depths.bench, frames: of_bench, promised: promise() },
+        Row {
+            function: "glidecotton_read_image",
+            depth: depths.read_image,
+            frames: of_read_image,
+            promised: promise(),
+        },
+        Row { function: "glidecotton_run_state", depth: depths.run_state, frames: of_run_state, promised: promise() },
+        Row {
+            function: "glidecotton_run_tasks",
+            depth: depths.run_tasks,
+            frames: of_run_tasks,
+            promised: promise_of_tasks(),
+        },
     ];
     print_table(&rows);
     println!(
-        "in {} images of sheet/ and samples/, {} generated ones and {} states; {} bytes are promised",
+        "in {} images of sheet/ and samples/, {} generated ones, {} states and {} runs of four tasks",
         grouped(written),
         grouped(images),
         grouped(states),
-        grouped(promise())
+        grouped(tasks)
     );
     let too_few =
         (written < LEAST_WRITTEN).then(|| format!("sheet/ and samples/ have fewer than {LEAST_WRITTEN} images"));
@@ -150,13 +169,13 @@ fn measure_images(depths: &mut Depths, random: &mut Random, images: u64) -> u64 
     done
 }
 
-/// Random states, well formed and broken; gives the number of runs.
-fn measure_states(depths: &mut Depths, random: &mut Random, states: u64) -> u64 {
-    let mut progress = Progress::new("states measured", states);
+/// Random states or tasks, well formed and broken; gives the number of runs.
+fn measure_runs(what: &'static str, wanted: u64, mut some: impl FnMut() -> Result<u64, Infallible>) -> u64 {
+    let mut progress = Progress::new(what, wanted);
     let mut done = 0;
-    while done < states {
+    while done < wanted {
         progress.done(done);
-        let Ok(runs) = any_state(depths, random);
+        let Ok(runs) = some();
         done += runs;
     }
     done
@@ -164,9 +183,10 @@ fn measure_states(depths: &mut Depths, random: &mut Random, states: u64) -> u64 
 
 /// A row for each function, and where its library has more functions than one, a line for each frame below it.
 fn print_table(rows: &[Row]) {
-    println!("{:<26}{:>13}{:>11}", "bytes of stack", "deepest seen", "frames");
+    println!("{:<26}{:>13}{:>11}{:>11}", "bytes of stack", "deepest seen", "frames", "promised");
     for row in rows {
-        println!("  {:<24}{:>13}{:>11}", row.function, grouped(row.depth.deepest), grouped(sum(&row.frames)));
+        let [deepest, frames, promised] = [row.depth.deepest, sum(&row.frames), row.promised].map(grouped);
+        println!("  {:<24}{deepest:>13}{frames:>11}{promised:>11}", row.function);
         if row.frames.len() > 1 {
             row.frames.iter().for_each(|frame| println!("    {:<35}{:>11}", frame.function, grouped(frame.bytes)));
         }
@@ -175,10 +195,10 @@ fn print_table(rows: &[Row]) {
 
 /// What is wrong with a row.
 fn faults(row: &Row) -> Vec<String> {
-    let Row { function, depth, frames } = row;
+    let Row { function, depth, frames, promised } = row;
     let explained = sum(frames) + RETURN_ADDRESS * frames.len() as u64 + BELOW_THE_POINTER;
     let took = format!("{function} took {} bytes", grouped(depth.deepest));
-    let promised = grouped(promise());
+    let enough = grouped(*promised);
     let mut faults = Vec::new();
     if depth.calls < LEAST_CALLS {
         faults.push(format!("{function} was called {} times, and {LEAST_CALLS} are the least", depth.calls));
@@ -186,11 +206,11 @@ fn faults(row: &Row) -> Vec<String> {
     if depth.deepest == 0 {
         faults.push(format!("{took}: nothing was measured"));
     }
-    if depth.deepest > promise() {
-        faults.push(format!("{took}, and glidecotton.h promises {promised}"));
+    if depth.deepest > *promised {
+        faults.push(format!("{took}, and glidecotton.h promises {enough}"));
     }
-    if explained > promise() {
-        faults.push(format!("the frames of {function} come to {}, and {promised} are promised", grouped(explained)));
+    if explained > *promised {
+        faults.push(format!("the frames of {function} come to {}, and {enough} are promised", grouped(explained)));
     }
     if depth.deepest > explained {
         faults.push(format!("{took}, and its frames explain {}", grouped(explained)));

@@ -3,7 +3,8 @@
 use std::fmt::Write;
 
 use super::image::load_image;
-use super::run::{run, Observer, Outcome};
+use super::observer::Observer;
+use super::run::{run, Outcome};
 use super::state::{Answer, Machine};
 
 /// What became of an image: the text, and the run's outcome where there was a run.

@@ -1,5 +1,6 @@
 //! The instruction set as a table, and the fetch of one instruction.
 
+use super::reach::Reach;
 use super::state::Answer;
 
 #[derive(Clone, Copy, Debug, PartialEq, Eq)]
@@ -10,7 +11,7 @@ pub enum Op {
     Equal, NotEqual, Less, Greater, ULess, UGreater, ZeroEqual, ZeroNotEqual, ZeroLess, ZeroGreater,
     Zero, And, Or, Invert, Xor, ShiftLeft, ShiftRight, XByte, XWord, MultS, MultU, DivS, DivU,
     FetchL, StoreL, FetchW, StoreW, FetchB, StoreB, QDup, LoadB, LoadW, LoadL, Jmp, Jsl, Jsr,
-    Exit, Beq, Bra,
+    Exit, Pause, Beq, Bra,
 }
 
 /// What is known of an instruction by its code alone.
@@ -94,14 +95,19 @@ static FROM_00: [Row; 0x3A] = [
     row(Op::Jsr,          "JSR",         1, 0,    1,    2),
 ];
 static EXIT: Row = row(Op::Exit, "EXIT", 0, 0, 1, 2);
+static PAUSE: Row = row(Op::Pause, "PAUSE", 0, 0, 1, 1);
 static BEQ: Row = row(Op::Beq, "BEQ", 1, 0, 2, 2);
 static BRA: Row = row(Op::Bra, "BRA", 0, 0, 2, 2);
+
+/// The code that passes the turn on where there are turns.
+pub const PAUSE_CODE: u8 = 0x3E;
 
 /// The row of a first byte, or nothing where no instruction begins with it.
 pub fn row_of(code: u8) -> Option<&'static Row> {
     match code {
         0x00..=0x39 => Some(&FROM_00[usize::from(code)]),
         0x3D => Some(&EXIT),
+        PAUSE_CODE => Some(&PAUSE),
         0x80..=0xBF => Some(&BEQ),
         0xC0..=0xFF => Some(&BRA),
         _ => None,
@@ -110,7 +116,7 @@ pub fn row_of(code: u8) -> Option<&'static Row> {
 
 /// One known code of every instruction: a branch is named by the lowest of its 64 codes.
 pub fn known_codes() -> impl Iterator<Item = u8> {
-    (0x00..=0x39).chain([0x3D, 0x80, 0xC0])
+    (0x00..=0x39).chain([0x3D, PAUSE_CODE, 0x80, 0xC0])
 }
 
 /// A fetched instruction.
@@ -122,13 +128,13 @@ pub struct Instruction {
     pub next: u32,
 }
 
-/// Reads the instruction at an address, or answers 3 or 4.
-pub fn fetch(memory: &[u8], address: u32) -> Result<Instruction, Answer> {
-    let first = byte_at(memory, address)?;
+/// Reads the instruction at an address, or answers 3, 4 or 17: its bytes are tested in order, each before it is read.
+pub fn fetch(memory: &[u8], reach: Reach, address: u32) -> Result<Instruction, Answer> {
+    let first = byte_at(memory, reach, address)?;
     let row = row_of(first).ok_or(Answer::UnknownCode)?;
     let mut operand = 0;
     for i in 1..row.bytes {
-        operand = operand << 8 | u32::from(byte_at(memory, address.wrapping_add(i))?);
+        operand = operand << 8 | u32::from(byte_at(memory, reach, address.wrapping_add(i))?);
     }
     if matches!(row.op, Op::Beq | Op::Bra) {
         operand = branch_offset(first, operand);
@@ -136,8 +142,13 @@ pub fn fetch(memory: &[u8], address: u32) -> Result<Instruction, Answer> {
     Ok(Instruction { row, operand, next: address.wrapping_add(row.bytes) })
 }
 
-fn byte_at(memory: &[u8], address: u32) -> Result<u8, Answer> {
-    memory.get(address as usize).copied().ok_or(Answer::CodeOutsideMemory)
+fn byte_at(memory: &[u8], reach: Reach, address: u32) -> Result<u8, Answer> {
+    let at = address as usize;
+    let byte = memory.get(at).ok_or(Answer::CodeOutsideMemory)?;
+    match reach.allows(at..at + 1) {
+        true => Ok(*byte),
+        false => Err(Answer::InAnothersPart),
+    }
 }
 
 /// The low six bits of the code and the second byte, as a 14-bit two's complement number.

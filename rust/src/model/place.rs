@@ -1,6 +1,7 @@
 //! What an address means to a fetch or a store.
 
 use super::codes::Op;
+use super::reach::Reach;
 use super::state::{Machine, CATCH_CELLS, LOCALS, MEMORY};
 
 const FIRST_LOCAL: u32 = 0x10000;
@@ -13,6 +14,16 @@ pub enum Place {
     Local(usize),
     /// A cell of exception level E.
     CatchCell(usize),
+}
+
+impl Place {
+    /// Whether so many bytes here are clear of other tasks' parts. The cells are the machine's own.
+    pub fn is_within(&self, reach: Reach, width: usize) -> bool {
+        match *self {
+            Place::Memory(start) => reach.allows(start..start + width),
+            Place::Local(_) | Place::CatchCell(_) => true,
+        }
+    }
 }
 
 /// Bytes that a fetch or a store moves; 0 for any other instruction.

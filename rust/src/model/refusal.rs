@@ -1,11 +1,12 @@
-//! Why an instruction that was fetched may not be carried out: answers 5 to 13.
+//! Why an instruction that was fetched may not be carried out: answers 5 to 13, and 17.
 
 use super::codes::{Instruction, Op};
 use super::place::{place, width};
+use super::reach::Reach;
 use super::state::{Answer, Machine, CATCHES, CELLS, FRAMES};
 
 /// The lowest answer that applies, or nothing.
-pub fn refusal(machine: &Machine, instruction: &Instruction) -> Option<Answer> {
+pub fn refusal(machine: &Machine, reach: Reach, instruction: &Instruction) -> Option<Answer> {
     let row = instruction.row;
     if machine.p < row.takes {
         return Some(Answer::TooFewParameters);
@@ -15,6 +16,7 @@ pub fn refusal(machine: &Machine, instruction: &Instruction) -> Option<Answer> {
     let op = row.op;
     let calls = matches!(op, Op::Catch | Op::Jsr | Op::Jsl);
     let accesses = width(op) > 0;
+    let place = place(width(op), top);
 
     let in_order = [
         (matches!(op, Op::RFrom | Op::RFetch) && machine.r == 0, Answer::ReturnStackEmpty),
@@ -23,8 +25,9 @@ pub fn refusal(machine: &Machine, instruction: &Instruction) -> Option<Answer> {
         ((calls || op == Op::ToR) && machine.r == CELLS, Answer::ReturnsFull),
         (calls && machine.s == FRAMES, Answer::FramesFull),
         (op == Op::Catch && machine.e == CATCHES, Answer::CatchesFull),
-        (accesses && place(width(op), top).is_none(), Answer::BadAddress),
+        (accesses && place.is_none(), Answer::BadAddress),
         (matches!(op, Op::DivS | Op::DivU) && top == 0, Answer::DivisorZero),
+        (accesses && !place.is_some_and(|place| place.is_within(reach, width(op))), Answer::InAnothersPart),
     ];
     in_order.into_iter().find(|(applies, _)| *applies).map(|(_, answer)| answer)
 }

@@ -113,6 +113,7 @@ pub enum Answer {
     BadAddress = 12,
     DivisorZero = 13,
     BadImage = 14,
+    InAnothersPart = 17,
 }
 
 impl Answer {

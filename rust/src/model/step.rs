@@ -2,17 +2,18 @@
 
 use super::codes::{fetch, Instruction, Op};
 use super::place::{load, place, store, width};
+use super::reach::Reach;
 use super::refusal::refusal;
 use super::state::{Answer, Machine, MEMORY};
 use super::word::{divide_signed, divide_unsigned, multiply_signed, multiply_unsigned, truth, wrapped};
 
 /// Carries out the next instruction and gives its cycles, or ends the run with machine and memory as they were.
-pub fn step(machine: &mut Machine, memory: &mut [u8; MEMORY]) -> Result<u64, Answer> {
-    let instruction = fetch(memory, machine.program_counter)?;
+pub fn step(machine: &mut Machine, memory: &mut [u8; MEMORY], reach: Reach) -> Result<u64, Answer> {
+    let instruction = fetch(memory, reach, machine.program_counter)?;
     if instruction.row.op == Op::Exit && machine.s == 0 {
         return Err(Answer::Finished);
     }
-    if let Some(answer) = refusal(machine, &instruction) {
+    if let Some(answer) = refusal(machine, reach, &instruction) {
         return Err(answer);
     }
     Ok(carry_out(machine, memory, &instruction))
@@ -24,7 +25,7 @@ fn carry_out(machine: &mut Machine, memory: &mut [u8; MEMORY], instruction: &Ins
     let mut cycles = row.cycles;
     machine.program_counter = next;
     match row.op {
-        Op::Nop => {}
+        Op::Nop | Op::Pause => {}
         Op::Drop => {
             machine.pop();
         }

@@ -10,6 +10,7 @@ use Rattle.plain.specs.Choice.{pick}
 use Rattle.numbers.specs.Bytes.{byteAt}
 use Rattle.links.specs.Depths.{cellsDepth, returnsDepth, subroutinesDepth, exceptionsDepth}
 use Rattle.machine.specs.Limits.{memoryLength}
+use Rattle.machine.specs.Reach.{none as unbarred, mayTouch, barOf}
 use Rattle.machine.specs.Codes.{entryAt, table}
 use Rattle.machine.specs.Fetch.{Instruction, instruction, instructionAt}
 use Rattle.machine.specs.Rows.{rowOf}
@@ -17,6 +18,7 @@ use Rattle.machine.specs.Checks.{Test}
 use Rattle.machine.specs.Step.{Stepped, refused, done, put, costOf, unless, carried, rowAt, testsAt, stepOf}
 use Rattle.machine.specs.Laws.Passed.{AllPass}
 use Rattle.machine.specs.declared.Machine.{Machine}
+use Rattle.machine.specs.declared.Reach.{Reach}
 use Rattle.demands.specs.Lowest.{Applies}
 
 all-pass : (ts : List Test) → ((k : ℕ) → Applies k ts → ⊥) → AllPass ts
@@ -32,29 +34,31 @@ unless-passed [] result h = refl
 unless-passed (t ∷ ts) result h =
     ap (λ (b : Bool). pick b (refused (t .number)) (unless ts result)) (h .0) ∙ unless-passed ts result (h .1)
 
-pub unrefused : (mem : List ℕ) (m : Machine) → ((k : ℕ) → Applies k (testsAt mem m) → ⊥) →
-    stepOf mem m ≡ done (rowAt mem m .memory) (put (rowAt mem m) m) (costOf (instructionAt mem (m .counter)) m)
+pub unrefused : (reach : Reach) (mem : List ℕ) (m : Machine) → ((k : ℕ) → Applies k (testsAt reach mem m) → ⊥) →
+    stepOf reach mem m ≡ done (rowAt reach mem m .memory) (put (rowAt reach mem m) m) (costOf (instructionAt reach mem (m .counter)) m)
 unfolding stepOf carried
-unrefused mem m none = unless-passed (testsAt mem m) _ (all-pass (testsAt mem m) none)
+unrefused reach mem m none = unless-passed (testsAt reach mem m) _ (all-pass (testsAt reach mem m) none)
 
--- CATCH, its byte inside memory
-abbrev catchAt : ℕ → Instruction
-catchAt a = record { code = 0x0B; operand = 0; next = (a + 1) % 2 ^ 32; outside = false }
+-- CATCH, with nothing that bars its byte
+abbrev catchAt : Reach → ℕ → Instruction
+catchAt reach a = record { code = 0x0B; operand = 0; next = (a + 1) % 2 ^ 32; reach = reach; bar = unbarred }
 
-fetched : (mem : List ℕ) (a : ℕ) → byteAt mem a ≡ 0x0B → a < memoryLength → instructionAt mem a ≡ catchAt a
-unfolding instructionAt entryAt table
-fetched mem a is below =
-    ap (λ (code : ℕ). instruction code (entryAt code) mem a) is ∙
-    rw (le-ltb memoryLength (a + 1) (omega arith))
+fetched : (reach : Reach) (mem : List ℕ) (a : ℕ) → byteAt mem a ≡ 0x0B → a < memoryLength → mayTouch reach a ≡ true →
+    instructionAt reach mem a ≡ catchAt reach a
+unfolding instructionAt entryAt table barOf
+fetched reach mem a is below may =
+    ap (λ (code : ℕ). instruction code (entryAt code) reach mem a) is ∙
+    rw (lt-leb memoryLength a below, may)
 
 -- it is carried out where there is an address to take and room on the three stacks
-pub catch-goes : (mem : List ℕ) (m : Machine) → byteAt mem (m .counter) ≡ 0x0B → m .counter < memoryLength →
+pub catch-goes : (reach : Reach) (mem : List ℕ) (m : Machine) → byteAt mem (m .counter) ≡ 0x0B →
+    m .counter < memoryLength → mayTouch reach (m .counter) ≡ true →
     1 ≤ m .p → m .p ≤ cellsDepth → m .links .r < returnsDepth → m .links .s < subroutinesDepth → m .links .e < exceptionsDepth →
-    stepOf mem m ≡ done mem (put (rowAt mem m) m) 2
-unfolding stepOf carried rowOf entryAt table
-catch-goes mem m is below some p r s e =
+    stepOf reach mem m ≡ done mem (put (rowAt reach mem m) m) 2
+unfolding stepOf carried rowOf entryAt table barOf
+catch-goes reach mem m is below may some p r s e =
     subst⁻¹ (λ (i : Instruction). carried i mem m ≡ done mem (put (rowOf i mem m (entryAt (i .code) .op)) m) 2)
-    (fetched mem (m .counter) is below)
+    (fetched reach mem (m .counter) is below may)
     (rw (
       le-ltb (m .p) 1 some,
       le-ltb cellsDepth (m .p - 1 + 0) (omega arith),

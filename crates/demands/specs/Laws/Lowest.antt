@@ -13,7 +13,6 @@ use Rattle.machine.specs.Step.{refused, done, unless}
 use Rattle.machine.specs.Laws.Passed.{AllPass}
 use Rattle.machine.specs.declared.Machine.{Machine}
 use Rattle.demands.specs.Lowest.{Applies, First}
-use Rattle.demands.specs.Laws.Every.{every}
 
 pub clash : (b : Bool) → b ≡ true → b ≡ false → ⊥
 clash b t f = subst T (sym t ∙ f) tt
@@ -24,11 +23,22 @@ none-applies [] h k a = a
 none-applies (t ∷ ts) h k (inl a) = clash (t .holds) (a .1) (h .0)
 none-applies (t ∷ ts) h k (inr a) = none-applies ts (h .1) k a
 
--- what passes at every number of the list passes at one that applies
-pub applies-listed : (f : ℕ → Bool) (ts : List Test) → T (every (λ (t : Test). f (t .number)) ts) → (k : ℕ) → Applies k ts → T (f k)
+-- the tests whose numbers do not pass do not hold
+abbrev pub Listed : (ℕ → Bool) → List Test → Type 0
+Listed f [] = Unit {0}
+Listed f (t ∷ ts) = pick (f (t .number)) (Listed f ts) ((t .holds ≡ false) × Listed f ts)
+
+-- so a number that applies passes
+pub applies-listed : (f : ℕ → Bool) (ts : List Test) → Listed f ts → (k : ℕ) → Applies k ts → T (f k)
 applies-listed f [] h k a = absurd a
-applies-listed f (t ∷ ts) h k (inl a) = subst (λ (n : ℕ). T (f n)) (a .0) (both-parts (f (t .number)) _ h .0)
-applies-listed f (t ∷ ts) h k (inr a) = applies-listed f ts (both-parts (f (t .number)) _ h .1) k a
+applies-listed f (t ∷ ts) h k a = go (f (t .number)) refl h a (λ h a. applies-listed f ts h k a)
+  where
+    go : (b : Bool) → f (t .number) ≡ b → pick b (Listed f ts) ((t .holds ≡ false) × Listed f ts) → Applies k (t ∷ ts) →
+        (Listed f ts → Applies k ts → T (f k)) → T (f k)
+    go true e h (inl a) later = subst T (sym e ∙ ap f (a .0)) tt
+    go true e h (inr a) later = later h a
+    go false e h (inl a) later = absurd (clash (t .holds) (a .1) (h .0))
+    go false e h (inr a) later = later (h .1) a
 
 -- the first that holds refuses
 module _ (mem : List ℕ) (m : Machine) (cost : ℕ) where

@@ -4,7 +4,7 @@ use Prim.Native.Nat.{ℕ, zero, suc}
 use lib.Dec.{T}
 use Rattle.plain.specs.Choice.{not, both}
 use Rattle.plain.specs.Laws.Choice.{both-parts, opposed}
-use Rattle.demands.specs.History.{World, codeAt, History, here, then, HostLeavesBytes}
+use Rattle.demands.specs.History.{World, codeAt, History, here, then, LeavesBytes}
 use Rattle.demands.specs.Walk.{ahead, walk}
 use Rattle.demands.specs.Flag.{movers, moves, NoneMoves}
 use Rattle.demands.specs.Laws.Walks.{stepAt, isDone, ahead-moment}
@@ -16,11 +16,11 @@ resting (suc n) w = both (not (moves (codeAt w) movers)) (both (isDone (stepAt w
 pub record Rested (w v : World) : Type 0 where
   pub history : History w v
   pub none-moves : NoneMoves history
-  pub host-leaves-bytes : HostLeavesBytes history
+  pub leaves-bytes : LeavesBytes history
 
 pub rested : (n : ℕ) (w : World) → T (resting n w) → Rested w (walk n w)
 unfolding resting walk
-rested zero w t = record { history = here; none-moves = tt; host-leaves-bytes = tt }
+rested zero w t = record { history = here; none-moves = tt; leaves-bytes = tt }
 rested (suc n) w t =
     let p = both-parts (not (moves (codeAt w) movers)) _ t in
     let q = both-parts (isDone (stepAt w)) _ (p .1) in
@@ -28,5 +28,5 @@ rested (suc n) w t =
     record {
       history = then (ahead-moment w (q .0)) (later .history);
       none-moves = (opposed (moves (codeAt w) movers) (p .0), later .none-moves);
-      host-leaves-bytes = later .host-leaves-bytes;
+      leaves-bytes = later .leaves-bytes;
     }

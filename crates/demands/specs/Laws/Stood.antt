@@ -23,7 +23,8 @@ use Rattle.machine.specs.Laws.Told.{Tells}
 use Rattle.machine.specs.Laws.Kept.{Formed, Good, step-kept, fair-at}
 use Rattle.machine.specs.Laws.Acts.{step-acts}
 use Rattle.machine.specs.declared.Machine.{Machine}
-use Rattle.demands.specs.History.{World, codeAt, Moment, step, host, Resets}
+use Rattle.machine.specs.declared.Reach.{Reach}
+use Rattle.demands.specs.History.{World, codeAt, Moment, step, host, others, Resets}
 use Rattle.demands.specs.Back.{Way, by-exit, by-throw, by-pop, Back}
 use Rattle.demands.specs.Laws.Views.{frame-in-view, level-in-view}
 use Rattle.demands.specs.Laws.Tops.{top-after}
@@ -35,125 +36,137 @@ pub record Stood (o w : World) : Type 0 where
   pub counted : 1 ≤ o .machine .p
   pub stands : Stands (o .machine .links) (o .machine .p - 1) (w .machine .links)
 
--- the instruction at the counter, its row, its action, and what that tells
-abbrev opAt : World → Op
-opAt w = entryAt (instructionAt (w .memory) (w .machine .counter) .code) .op
+-- an instruction under a reach
+module _ (reach : Reach) where
+  -- the instruction at the counter, its row, its action, and what that tells
+  abbrev opAt : World → Op
+  opAt w = entryAt (instructionAt reach (w .memory) (w .machine .counter) .code) .op
 
-abbrev rowHere : World → Row
-rowHere w = rowAt (w .memory) (w .machine)
+  abbrev rowHere : World → Row
+  rowHere w = rowAt reach (w .memory) (w .machine)
 
-abbrev linkAt : World → Act
-linkAt w = rowHere w .link
+  abbrev linkAt : World → Act
+  linkAt w = rowHere w .link
 
-abbrev TellsAt : World → Act → Type 0
-TellsAt w a = Tells (instructionAt (w .memory) (w .machine .counter)) (w .machine) (opAt w) (rowHere w) a
+  abbrev TellsAt : World → Act → Type 0
+  TellsAt w a = Tells (instructionAt reach (w .memory) (w .machine .counter)) (w .machine) (opAt w) (rowHere w) a
 
-code-at : (w : World) (o : Link) → opAt w ≡ LINK o → codeAt w ≡ codeOf o
-unfolding instructionAt
-code-at w o is = marked (codeAt w) o is
+  code-at : (w : World) (o : Link) → opAt w ≡ LINK o → codeAt w ≡ codeOf o
+  unfolding instructionAt
+  code-at w o is = marked (codeAt w) o is
 
--- CATCH's action, and that its address is there to take
-catch-link : (w : World) → codeAt w ≡ 0x0B → linkAt w ≡ catch ((w .machine .counter + 1) % 2 ^ 32) (w .machine .p - 1)
-unfolding instructionAt entryAt table rowOf
-catch-link w e =
-    ap
-    (λ (c : ℕ). rowOf (instruction c (entryAt c) (w .memory) (w .machine .counter)) (w .memory) (w .machine) (entryAt c .op) .link)
-    e
+  -- CATCH's action, and that its address is there to take
+  catch-link : (w : World) → codeAt w ≡ 0x0B → linkAt w ≡ catch ((w .machine .counter + 1) % 2 ^ 32) (w .machine .p - 1)
+  unfolding instructionAt entryAt table rowOf
+  catch-link w e =
+      ap
+      (λ (c : ℕ). rowOf (instruction c (entryAt c) reach (w .memory) (w .machine .counter)) (w .memory) (w .machine) (entryAt c .op) .link)
+      e
 
-catch-counted : (w v : World) (k : ℕ) → codeAt w ≡ 0x0B → stepOf (w .memory) (w .machine) ≡ done (v .memory) (v .machine) k → 1 ≤ w .machine .p
-unfolding instructionAt entryAt table
-catch-counted w v k is e =
-    let d = step-done (w .memory) (w .machine) (v .memory) (v .machine) k e in
-    let five = passed-at 5 (testsAt (w .memory) (w .machine)) (d .passed) in
-    subst (λ (c : ℕ). entryAt c .takes ≤ w .machine .p) is (ltb-false (w .machine .p) (entryAt (codeAt w) .takes) five)
+  catch-counted : (w v : World) (k : ℕ) → codeAt w ≡ 0x0B → stepOf reach (w .memory) (w .machine) ≡ done (v .memory) (v .machine) k → 1 ≤ w .machine .p
+  unfolding instructionAt entryAt table
+  catch-counted w v k is e =
+      let d = step-done reach (w .memory) (w .machine) (v .memory) (v .machine) k e in
+      let five = passed-at 5 (testsAt reach (w .memory) (w .machine)) (d .passed) in
+      subst (λ (c : ℕ). entryAt c .takes ≤ w .machine .p) is (ltb-false (w .machine .p) (entryAt (codeAt w) .takes) five)
 
--- a CATCH that is carried out makes it stand
-pub catch-stood : (o w : World) (k : ℕ) → Whole (o .machine) → Formed (o .machine) → codeAt o ≡ 0x0B →
-    stepOf (o .memory) (o .machine) ≡ done (w .memory) (w .machine) k → Stood o w
-catch-stood o w k whole formed is e =
-    let g = step-kept (o .memory) (o .machine) (w .memory) (w .machine) k whole formed e in
-    let a = step-acts (o .memory) (o .machine) (w .memory) (w .machine) k formed e in
-    let link = catch-link o is in
-    let l = o .machine .links in
-    let p = o .machine .p - 1 in
-    let ok = subst (λ (b : Act). Allowed b l) link (a .allowed) in
-    record {
-      whole = g .whole;
-      formed = g .formed;
-      counted = catch-counted o w k is e;
-      stands =
-          subst (λ (x : Links). Stands l p x) (sym (a .acted))
-          (subst (λ (b : Act). Stands l p (act b l)) (sym link) (caught l _ p (whole .shaped) (formed .sound) ok));
-    }
-
--- one more instruction
-module _ (o w v : World) (k : ℕ) (s : Stood o w) (e : stepOf (w .memory) (w .machine) ≡ done (v .memory) (v .machine) k) where
-  good : Good (w .memory) (v .memory) (v .machine)
-  good = step-kept (w .memory) (w .machine) (v .memory) (v .machine) k (s .whole) (s .formed) e
-
-  is-put : v .machine ≡ put (rowHere w) (w .machine)
-  is-put = step-done (w .memory) (w .machine) (v .memory) (v .machine) k e .machine
-
-  -- after a throw
-  thrown : TellsAt w throw → thrownP (w .machine .links) ≡ suc (o .machine .p - 1) → Way o w v
-  thrown t same =
-      let r = rowHere w in
-      let p-is : v .machine .p ≡ r .keeps + length (r .puts) = ap (λ (m : Machine). m .p) is-put in
-      let one : length (r .puts) ≡ 1 = ap (λ (xs : List ℕ). length xs) (t .1 .code-put) in
-      by-throw (code-at w THROW (t .0)) (eqb-false (top (w .machine)) 0 (t .1 .non-zero)) (omega (arith, t .1 .to-copy, s .counted))
-      (top-after w v k (s .whole) (s .formed) e (top (w .machine)) (t .1 .code-put))
-
-  back : Restored (o .machine .links) (v .machine .links) → Way o w v → Back o w v
-  back restored way =
+  -- a CATCH that is carried out makes it stand
+  pub catch-stood : (o w : World) (k : ℕ) → Whole (o .machine) → Formed (o .machine) → codeAt o ≡ 0x0B →
+      stepOf reach (o .memory) (o .machine) ≡ done (w .memory) (w .machine) k → Stood o w
+  catch-stood o w k whole formed is e =
+      let g = step-kept reach (o .memory) (o .machine) (w .memory) (w .machine) k whole formed e in
+      let a = step-acts reach (o .memory) (o .machine) (w .memory) (w .machine) k formed e in
+      let link = catch-link o is in
+      let l = o .machine .links in
+      let p = o .machine .p - 1 in
+      let ok = subst (λ (b : Act). Allowed b l) link (a .allowed) in
       record {
-        restored = restored;
-        locals-back = frame-in-view (o .machine .links) (v .machine .links) restored;
-        cells-back = level-in-view (o .machine .links) (v .machine .links) restored;
-        way = way;
+        whole = g .whole;
+        formed = g .formed;
+        counted = catch-counted o w k is e;
+        stands =
+            subst (λ (x : Links). Stands l p x) (sym (a .acted))
+            (subst (λ (b : Act). Stands l p (act b l)) (sym link) (caught l _ p (whole .shaped) (formed .sound) ok));
       }
 
-  gone : (a : Act) → v .machine .links ≡ act a (w .machine .links) → TellsAt w a →
-      Gone (o .machine .links) (o .machine .p - 1) (w .machine .links) a → (codeAt w ≡ 0x0C) ⊎ Back o w v
-  gone a is t by-reset = inl (code-at w RESETSP t)
-  gone a is t (links-exit r) = inr (back (subst (λ (x : Links). Restored (o .machine .links) x) (sym is) r) (by-exit (code-at w EXIT t)))
-  gone a is t (links-pop r) = inr (back (subst (λ (x : Links). Restored (o .machine .links) x) (sym is) r) (by-pop (code-at w R> (t .0))))
-  gone a is t (links-throw r same) = inr (back (subst (λ (x : Links). Restored (o .machine .links) x) (sym is) r) (thrown t same))
+  -- one more instruction
+  module _ (o w v : World) (k : ℕ) (s : Stood o w) (e : stepOf reach (w .memory) (w .machine) ≡ done (v .memory) (v .machine) k) where
+    good : Good (w .memory) (v .memory) (v .machine)
+    good = step-kept reach (w .memory) (w .machine) (v .memory) (v .machine) k (s .whole) (s .formed) e
 
-  step-next : Stood o v ⊎ ((codeAt w ≡ 0x0C) ⊎ Back o w v)
-  step-next =
-      let acts = step-acts (w .memory) (w .machine) (v .memory) (v .machine) k (s .formed) e in
-      ⊎-elim
-      (λ (h : Stands (o .machine .links) (o .machine .p - 1) (act (linkAt w) (w .machine .links))).
-      inl (record {
-        whole = good .whole;
-        formed = good .formed;
-        counted = s .counted;
-        stands = subst (λ (x : Links). Stands (o .machine .links) (o .machine .p - 1) x) (sym (acts .acted)) h;
-      }))
-      (λ h. inr (gone (linkAt w) (acts .acted) (fair-at (w .memory) (w .machine) .tells) h))
-      (next (o .machine .links) (o .machine .p - 1) (w .machine .links) (s .stands) (linkAt w) (acts .allowed))
+    is-put : v .machine ≡ put (rowHere w) (w .machine)
+    is-put = step-done reach (w .memory) (w .machine) (v .memory) (v .machine) k e .machine
 
--- one more moment
-pub moment-next : (o w v : World) → Stood o w → (moment : Moment w v) → Stood o v ⊎ (Resets moment ⊎ Back o w v)
-moment-next o w v s (step k e) = step-next o w v k s e
-moment-next o w v s (host e) =
-    inl (record {
+    -- after a throw
+    thrown : TellsAt w throw → thrownP (w .machine .links) ≡ suc (o .machine .p - 1) → Way o w v
+    thrown t same =
+        let r = rowHere w in
+        let p-is : v .machine .p ≡ r .keeps + length (r .puts) = ap (λ (m : Machine). m .p) is-put in
+        let one : length (r .puts) ≡ 1 = ap (λ (xs : List ℕ). length xs) (t .1 .code-put) in
+        by-throw (code-at w THROW (t .0)) (eqb-false (top (w .machine)) 0 (t .1 .non-zero)) (omega (arith, t .1 .to-copy, s .counted))
+        (top-after reach w v k (s .whole) (s .formed) e (top (w .machine)) (t .1 .code-put))
+
+    back : Restored (o .machine .links) (v .machine .links) → Way o w v → Back o w v
+    back restored way =
+        record {
+          restored = restored;
+          locals-back = frame-in-view (o .machine .links) (v .machine .links) restored;
+          cells-back = level-in-view (o .machine .links) (v .machine .links) restored;
+          way = way;
+        }
+
+    gone : (a : Act) → v .machine .links ≡ act a (w .machine .links) → TellsAt w a →
+        Gone (o .machine .links) (o .machine .p - 1) (w .machine .links) a → (codeAt w ≡ 0x0C) ⊎ Back o w v
+    gone a is t by-reset = inl (code-at w RESETSP t)
+    gone a is t (links-exit r) = inr (back (subst (λ (x : Links). Restored (o .machine .links) x) (sym is) r) (by-exit (code-at w EXIT t)))
+    gone a is t (links-pop r) = inr (back (subst (λ (x : Links). Restored (o .machine .links) x) (sym is) r) (by-pop (code-at w R> (t .0))))
+    gone a is t (links-throw r same) = inr (back (subst (λ (x : Links). Restored (o .machine .links) x) (sym is) r) (thrown t same))
+
+    step-next : Stood o v ⊎ ((codeAt w ≡ 0x0C) ⊎ Back o w v)
+    step-next =
+        let acts = step-acts reach (w .memory) (w .machine) (v .memory) (v .machine) k (s .formed) e in
+        ⊎-elim
+        (λ (h : Stands (o .machine .links) (o .machine .p - 1) (act (linkAt w) (w .machine .links))).
+        inl (record {
+          whole = good .whole;
+          formed = good .formed;
+          counted = s .counted;
+          stands = subst (λ (x : Links). Stands (o .machine .links) (o .machine .p - 1) x) (sym (acts .acted)) h;
+        }))
+        (λ h. inr (gone (linkAt w) (acts .acted) (fair-at reach (w .memory) (w .machine) .tells) h))
+        (next (o .machine .links) (o .machine .p - 1) (w .machine .links) (s .stands) (linkAt w) (acts .allowed))
+
+  -- after a RESETSP E is 0
+  reset-link : (w : World) → codeAt w ≡ 0x0C → linkAt w ≡ reset
+  unfolding instructionAt entryAt table rowOf
+  reset-link w e =
+      ap
+      (λ (c : ℕ). rowOf (instruction c (entryAt c) reach (w .memory) (w .machine .counter)) (w .memory) (w .machine) (entryAt c .op) .link)
+      e
+
+  reset-done : (o w v : World) (k : ℕ) → Stood o w → stepOf reach (w .memory) (w .machine) ≡ done (v .memory) (v .machine) k → codeAt w ≡ 0x0C →
+      v .machine .links .e ≡ 0
+  reset-done o w v k s e is =
+      let acts = step-acts reach (w .memory) (w .machine) (v .memory) (v .machine) k (s .formed) e in
+      ap (λ (l : Links). l .e) (acts .acted) ∙ ap (λ (a : Act). act a (w .machine .links) .e) (reset-link w is)
+
+-- a moment that leaves the machine as it was
+unaltered : (o w v : World) → Stood o w → v .machine ≡ w .machine → Stood o v
+unaltered o w v s e =
+    record {
       whole = subst (λ (m : Machine). Whole m) (sym e) (s .whole);
       formed = subst (λ (m : Machine). Formed m) (sym e) (s .formed);
       counted = s .counted;
       stands = subst (λ (m : Machine). Stands (o .machine .links) (o .machine .p - 1) (m .links)) (sym e) (s .stands);
-    })
+    }
 
--- after a RESETSP E is 0
-reset-link : (w : World) → codeAt w ≡ 0x0C → linkAt w ≡ reset
-unfolding instructionAt entryAt table rowOf
-reset-link w e =
-    ap
-    (λ (c : ℕ). rowOf (instruction c (entryAt c) (w .memory) (w .machine .counter)) (w .memory) (w .machine) (entryAt c .op) .link)
-    e
+-- one more moment
+pub moment-next : (o w v : World) → Stood o w → (moment : Moment w v) → Stood o v ⊎ (Resets moment ⊎ Back o w v)
+moment-next o w v s (step reach k e) = step-next reach o w v k s e
+moment-next o w v s (host e) = inl (unaltered o w v s e)
+moment-next o w v s (others e) = inl (unaltered o w v s e)
 
 pub reset-down : (o w v : World) → Stood o w → (moment : Moment w v) → Resets moment → v .machine .links .e ≡ 0
-reset-down o w v s (step k e) is =
-    let acts = step-acts (w .memory) (w .machine) (v .memory) (v .machine) k (s .formed) e in
-    ap (λ (l : Links). l .e) (acts .acted) ∙ ap (λ (a : Act). act a (w .machine .links) .e) (reset-link w is)
+reset-down o w v s (step reach k e) is = reset-done reach o w v k s e is
 reset-down o w v s (host e) is = absurd is
+reset-down o w v s (others e) is = absurd is

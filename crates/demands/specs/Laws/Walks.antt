@@ -6,6 +6,7 @@ use Prim.Native.Nat.{ℕ, zero, suc}
 use lib.Dec.{T, ltb, eqb, ltb→lt}
 use Rattle.plain.specs.Choice.{both, not}
 use Rattle.plain.specs.Laws.Choice.{both-parts}
+use Rattle.machine.specs.Reach.{alone}
 use Rattle.machine.specs.Step.{Stepped, refused, done, stepOf}
 use Rattle.machine.specs.Run.{runFrom, runOf, acceptable}
 use Rattle.demands.specs.History.{World, world, worldAfter, codeAt, pointerE, Moment, Resets, step, host, History, here, then, StaysAbove}
@@ -14,7 +15,7 @@ use Rattle.demands.specs.Theorems.Two.{starts, spends, goes-on}
 
 -- the step at a world, and whether it is carried out
 abbrev pub stepAt : World → Stepped
-stepAt w = stepOf (w .memory) (w .machine)
+stepAt w = stepOf alone (w .memory) (w .machine)
 
 abbrev pub isDone : Stepped → Bool
 isDone (refused number) = false
@@ -37,12 +38,12 @@ goes zero w = true
 goes (suc n) w = both (isDone (stepAt w)) (goes n (ahead w))
 
 -- so a run of n leaves what a walk of n steps does
-walk-rest : (n : ℕ) (w : World) (steps cycles : ℕ) → T (goes n w) → worldAfter (runFrom n (w .memory) (w .machine) steps cycles) ≡ walk n w
+walk-rest : (n : ℕ) (w : World) (steps cycles : ℕ) → T (goes n w) → worldAfter (runFrom alone false n (w .memory) (w .machine) steps cycles) ≡ walk n w
 unfolding goes walk
-walk-rest zero w steps cycles t = ap worldAfter (spends (w .memory) (w .machine) steps cycles)
+walk-rest zero w steps cycles t = ap worldAfter (spends alone false (w .memory) (w .machine) steps cycles)
 walk-rest (suc n) w steps cycles t =
     let p = both-parts (isDone (stepAt w)) (goes n (ahead w)) t in
-    ap worldAfter (goes-on (w .memory) (w .machine) steps cycles n (ahead w .memory) (ahead w .machine) _ (ahead-step w (p .0))) ∙
+    ap worldAfter (goes-on alone false (w .memory) (w .machine) steps cycles n (ahead w .memory) (ahead w .machine) _ refl (ahead-step w (p .0))) ∙
     walk-rest n (ahead w) (suc steps) _ (p .1)
 
 pub run-walks : (n : ℕ) (w : World) → acceptable (w .memory) (w .machine) n ≡ true → T (goes n w) →
@@ -59,7 +60,7 @@ pub record Walked (limit : ℕ) (w v : World) : Type 0 where
   pub above : StaysAbove limit history
 
 abbrev pub ahead-moment : (w : World) → T (isDone (stepAt w)) → Moment w (ahead w)
-ahead-moment w t = step _ (ahead-step w t)
+ahead-moment w t = step alone _ (ahead-step w t)
 
 -- it is no RESETSP
 pub not-reset : (w : World) (t : T (isDone (stepAt w))) → T (not (eqb (codeAt w) 0x0C)) → Resets (ahead-moment w t) → ⊥

@@ -8,6 +8,7 @@ use lib.Dec.{T, leb, eqb, leb→le, eqb→eq}
 use Rattle.plain.specs.Choice.{not, both}
 use Rattle.plain.specs.Laws.Choice.{both-parts}
 use Rattle.links.specs.Laws.Fresh.{fresh-shaped}
+use Rattle.machine.specs.Reach.{alone}
 use Rattle.demands.specs.History.{World, codeAt, pointerE, History, here, then, Accepted}
 use Rattle.demands.specs.Back.{Loses, Seen}
 use Rattle.demands.specs.Walk.{ahead, walk}
@@ -31,6 +32,7 @@ seen {a} {o} {v} accepted before catches carried between goes down other way is 
     record {
       before = before;
       catches = eqb→eq (codeAt o) 0x0B catches;
+      reach = alone;
       cost = costOfStep (stepAt o);
       carried = ahead-step o carried;
       between = between .history;
@@ -73,7 +75,7 @@ shown code n way t =
 ways-hold : T (loses throws 1 0x0D) × T (loses exits 0 0x3D) × T (loses pops 0 0x09)
 unfolding loses calm walk Rattle.plain.specs.Zeros.padded Rattle.machine.specs.State.freshMachine Rattle.machine.specs.State.machineWith
     Rattle.links.specs.Fresh.freshLinks Rattle.links.specs.Fresh.freshFrame Rattle.links.specs.Fresh.freshLevel Rattle.links.specs.Actions.noLocals
-    Rattle.machine.specs.Step.stepOf Rattle.machine.specs.Step.carried Rattle.machine.specs.Fetch.instructionAt
+    Rattle.machine.specs.Step.stepOf Rattle.machine.specs.Step.carried Rattle.machine.specs.Fetch.instructionAt Rattle.machine.specs.Reach.barOf
     Rattle.machine.specs.Rows.rowOf Rattle.machine.specs.Codes.entryAt Rattle.machine.specs.Codes.table
 ways-hold = (tt, tt, tt)
 

@@ -5,6 +5,7 @@ use Prim.Native.Nat.{ℕ, _+_, _-_, _^_, _%_}
 use lib.Dec.{T, leb, ltb, eqb, eqb→eq, lit≤}
 use Rattle.plain.specs.Zeros.{padded}
 use Rattle.word.specs.Truth.{bitOf}
+use Rattle.machine.specs.Reach.{alone}
 use Rattle.machine.specs.State.{wellFormed, machineWith}
 use Rattle.machine.specs.Fits.{Exist}
 use Rattle.machine.specs.Laws.Kept.{formed, formed-true}
@@ -48,17 +49,19 @@ meets low high h =
     let starts = start-exists (code low high) cells (all-below (2 ^ 8) (code low high) bytes) (all-below (2 ^ 32) cells tt) (lit≤ tt) in
     let is-formed = formed (machineWith cells) start-formed in
     record {
-      exist = history-carries (before .history) (before .host-leaves-bytes) is-formed starts;
+      exist = history-carries (before .history) (before .leaves-bytes) is-formed starts;
       accepted = formed-true (atLow low high .machine) (history-kept (before .history) (starts .whole) is-formed .1);
       codes =
           record {
             low-code = eqb→eq (codeAt (atLow low high)) low low-code;
+            low-reach = alone;
             low-cost = _;
             low-done = ahead-step (atLow low high) low-done;
             between = between .history;
             none-moves = between .none-moves;
-            host-leaves-bytes = between .host-leaves-bytes;
+            leaves-bytes = between .leaves-bytes;
             high-code = eqb→eq (codeAt (atHigh low high)) high high-code;
+            high-reach = alone;
             high-cost = _;
             high-done = ahead-step (atHigh low high) high-done;
           };
@@ -73,7 +76,7 @@ record Both : Type 0 where
 holds : Both
 unfolding padded machineWith walk resting
     Rattle.links.specs.Fresh.freshLinks Rattle.links.specs.Fresh.freshFrame Rattle.links.specs.Fresh.freshLevel Rattle.links.specs.Actions.noLocals
-    Rattle.machine.specs.Step.stepOf Rattle.machine.specs.Step.carried Rattle.machine.specs.Fetch.instructionAt
+    Rattle.machine.specs.Step.stepOf Rattle.machine.specs.Step.carried Rattle.machine.specs.Fetch.instructionAt Rattle.machine.specs.Reach.barOf
     Rattle.machine.specs.Rows.rowOf Rattle.machine.specs.Codes.entryAt Rattle.machine.specs.Codes.table
     Rattle.word.specs.Dispatch.oneCellOf Rattle.word.specs.Dispatch.twoCellsOf
 holds = record { sum = (tt, tt, tt, tt, tt, tt, tt, tt, tt); difference = (tt, tt, tt, tt, tt, tt, tt, tt, tt) }

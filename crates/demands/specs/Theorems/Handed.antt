@@ -28,7 +28,7 @@ taken-again mem m budget again whole other within =
     let t = taken mem m budget (b .0) in
     accept (runOf mem m budget .memory) (runOf mem m budget .ran .machine) again
     (record {
-      long = same-length (b .1 .history) (b .1 .unbroken) whole (t .formed) ∙ t .long;
+      long = same-length (b .1 .history) (b .1 .unbroken) ∙ t .long;
       budget-within = within;
       formed = history-kept (b .1 .history) whole (t .formed) .1;
     })

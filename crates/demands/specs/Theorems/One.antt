@@ -7,12 +7,13 @@ use native.Mathlib.Omega.{arith}
 use borrow.Author.Tests.{eqb-true}
 use lib.Dec.{T, leb, eqb, leb→le}
 use Rattle.plain.specs.Choice.{pick, both}
-use Rattle.machine.specs.Run.{After, ended, runFrom, runOf, acceptable}
 use Rattle.plain.specs.Laws.Choice.{both-parts}
+use Rattle.machine.specs.Reach.{alone}
+use Rattle.machine.specs.Run.{After, ended, runFrom, runOf, acceptable}
 use Rattle.machine.specs.declared.Machine.{Machine}
-use Rattle.demands.specs.History.{stepsIn}
-use Rattle.demands.specs.Course.{Reason, spent, stopped}
-use Rattle.demands.specs.Laws.Course.{course}
+use Rattle.demands.specs.History.{World, worldAfter, History}
+use Rattle.demands.specs.Course.{Reason, spent, passed, stopped}
+use Rattle.demands.specs.Laws.Course.{course, within, none-passed}
 use Rattle.demands.specs.One.{One}
 use Rattle.demands.specs.Lowest.{highest}
 use Rattle.demands.specs.Laws.Refused.{listed, refused-listed}
@@ -27,26 +28,24 @@ not-two k t = go (eqb k 0) refl t
         let low : 3 ≤ k = leb→le 3 k (p .0) in
         (leb→le k highest (p .1), λ (is : k ≡ 2). omega arith)
 
-reason-answer : (budget n : ℕ) (a : After) → Reason budget n a → (a .ran .answer ≤ highest) × (a .ran .answer ≡ 2 → ⊥)
-reason-answer budget n a (spent e is) = (omega arith, λ (two : a .ran .answer ≡ 2). omega arith)
-reason-answer budget n a (stopped e below) = not-two (a .ran .answer) (refused-listed (a .memory) (a .ran .machine) (a .ran .answer) e)
-
-reason-within : (budget n : ℕ) (a : After) → Reason budget n a → n ≤ budget
-reason-within budget n a (spent e is) = omega arith
-reason-within budget n a (stopped e below) = omega arith
+reason-answer : (budget : ℕ) {w : World} (a : After) (h : History w (worldAfter a)) → Reason alone false budget a h →
+    (a .ran .answer ≤ highest) × (a .ran .answer ≡ 2 → ⊥)
+reason-answer budget a h (spent is all none) = (omega arith, λ (two : a .ran .answer ≡ 2). omega arith)
+reason-answer budget a h (passed is most last) = absurd (none-passed h last)
+reason-answer budget a h (stopped e below none) = not-two (a .ran .answer) (refused-listed (a .memory) (a .ran .machine) (a .ran .answer) e)
 
 pub one : (mem : List ℕ) (m : Machine) (budget : ℕ) → One mem m budget (runOf mem m budget)
 unfolding runOf
 one mem m budget = go (acceptable mem m budget) refl
   where
     go : (b : Bool) → acceptable mem m budget ≡ b →
-        One mem m budget (elim b as (λ x. After) [ true ↦ runFrom budget mem m 0 0 | false ↦ ended 2 mem m 0 0 ])
+        One mem m budget (elim b as (λ x. After) [ true ↦ runFrom alone false budget mem m 0 0 | false ↦ ended 2 mem m 0 0 ])
     go true e =
-        let c = course budget mem m 0 0 in
-        let answer = reason-answer budget (stepsIn (c .history)) _ (c .reason) in
+        let c = course alone false budget mem m 0 0 in
+        let answer = reason-answer budget _ (c .history) (c .reason) in
         record {
           answered = answer .0;
-          within-budget = omega (arith, c .steps, reason-within budget (stepsIn (c .history)) _ (c .reason));
+          within-budget = omega (arith, c .steps, within (c .reason));
           untouched = λ two. absurd (answer .1 two);
           as-before = λ other. (e, c);
         }

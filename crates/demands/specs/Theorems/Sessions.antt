@@ -5,6 +5,7 @@ use mathlib.Core.Bool.{Bool, true, false}
 use mathlib.Core.List.{List, [], _∷_}
 use Prim.Native.Nat.{ℕ}
 use native.Mathlib.Omega.{arith}
+use Rattle.machine.specs.Reach.{alone}
 use Rattle.machine.specs.State.{wellFormed, Whole}
 use Rattle.machine.specs.Run.{After, ended, runFrom, runOf, acceptable}
 use Rattle.machine.specs.Laws.Kept.{formed-true}
@@ -25,11 +26,11 @@ unfolding runOf
 run-history memory m budget = go (acceptable memory m budget)
   where
     go : (b : Bool) →
-        RunHistory (world memory m) (elim b as (λ x. After) [ true ↦ runFrom budget memory m 0 0 | false ↦ ended 2 memory m 0 0 ])
+        RunHistory (world memory m) (elim b as (λ x. After) [ true ↦ runFrom alone false budget memory m 0 0 | false ↦ ended 2 memory m 0 0 ])
     go true =
-        let c = course budget memory m 0 0 in
-        record { history = c .history; unbroken = c .unbroken; steps = omega (arith, c .steps); cycles = omega (arith, c .cycles) }
-    go false = record { history = here; unbroken = tt; steps = refl; cycles = refl }
+        let c = course alone false budget memory m 0 0 in
+        record { history = c .history; unbroken = c .unbroken; under = c .under; steps = omega (arith, c .steps); cycles = omega (arith, c .cycles) }
+    go false = record { history = here; unbroken = tt; under = tt; steps = refl; cycles = refl }
 
 -- Any number of runs is one history, from the machine that the first was given to what the last one left.
 pub session-history : (w : World) (runs : List Given) → SessionHistory w runs
@@ -64,4 +65,4 @@ three-by-runs {a} {o} {w} {v} {z} whole runs l after follows = go (wellFormed (a
     go : (b : Bool) → wellFormed (a .machine) ≡ b → Resets (l .last) ⊎ Back o v z
     go true e = three (record { whole = whole; formed = e }) l
     go false e =
-        absurd (omega (arith, unformed-still e follows, steps-joined (l .before) (then (step (l .cost) (l .carried)) (joined (l .between) (then (l .last) after)))))
+        absurd (omega (arith, unformed-still e follows, steps-joined (l .before) (then (step (l .reach) (l .cost) (l .carried)) (joined (l .between) (then (l .last) after)))))

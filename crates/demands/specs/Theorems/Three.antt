@@ -1,5 +1,6 @@
 -- Demand 3: whatever a caught word does, when its CATCH's exception level is gone, unless by RESETSP, the machine is back where it was
--- before the CATCH. However deep the calls and however many the inner CATCHes, over any number of runs, with any memory from the host between them.
+-- before the CATCH. However deep the calls and however many the inner CATCHes, over any number of runs, with any memory from the host
+-- and any turns of other tasks between them.
 use mathlib.Core.Logic.{_⊎_, ⊎-elim}
 use Prim.Native.Nat.{ℕ, _<_}
 use native.Mathlib.Omega.{arith}
@@ -31,6 +32,6 @@ stood-through o {w} s (then {u = x} moment rest) above =
 pub three : {a o w v z : World} → Accepted (a .machine) → (l : Loses a o w v z) → Resets (l .last) ⊎ Back o v z
 three {a} {o} {w} {v} {z} start l =
     let h = history-kept (l .before) (start .whole) (formed (a .machine) (start .formed)) in
-    let caught = catch-stood o w (l .cost) (h .0) (h .1) (l .catches) (l .carried) in
+    let caught = catch-stood (l .reach) o w (l .cost) (h .0) (h .1) (l .catches) (l .carried) in
     ⊎-elim (λ (stood : Stood o z). absurd (omega (arith, stood .stands .e-above, l .down))) (λ ends. ends)
     (moment-next o v z (stood-through o caught (l .between) (l .above)) (l .last))

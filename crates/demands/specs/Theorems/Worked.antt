@@ -37,7 +37,7 @@ holds : Holds
 unfolding padded goes calm walk freshMachine machineWith acceptable
     Rattle.machine.specs.State.wellFormed Rattle.links.specs.Linked.linked
     Rattle.links.specs.Fresh.freshLinks Rattle.links.specs.Fresh.freshFrame Rattle.links.specs.Fresh.freshLevel Rattle.links.specs.Actions.noLocals
-    Rattle.machine.specs.Step.stepOf Rattle.machine.specs.Step.carried Rattle.machine.specs.Fetch.instructionAt
+    Rattle.machine.specs.Step.stepOf Rattle.machine.specs.Step.carried Rattle.machine.specs.Fetch.instructionAt Rattle.machine.specs.Reach.barOf
     Rattle.machine.specs.Rows.rowOf Rattle.machine.specs.Codes.entryAt Rattle.machine.specs.Codes.table
 holds =
     record {

@@ -19,19 +19,22 @@ use Rattle.word.specs.Dispatch.{twoCellsOf}
 use Rattle.word.specs.Laws.Fits.{CellsFit, one-fits, two-fit}
 use Rattle.word.specs.declared.Outcome.{Outcome}
 use Rattle.word.specs.declared.Outcome.the-variants.{Single, Double, DivisorZero}
-use Rattle.machine.specs.Codes.{Shuffle, NOP, DROP, DUP, SWAP, OVER, NIP, ROT, PSP-AT, ZERO, DUP-NONZERO, Jump, JMP, BEQ, BRA, Link, >R, R-AT, R>, CATCH, RESETSP, THROW, JSL, JSR, EXIT, Op, SHUFFLE, JUMP, LINK, ONE, TWO, FETCH, STORE, LITERAL, Operand, none, number, offset, table, entryAt}
+use Rattle.machine.specs.Codes.{Shuffle, NOP, DROP, DUP, SWAP, OVER, NIP, ROT, PSP-AT, ZERO, DUP-NONZERO, PAUSE, Jump, JMP, BEQ, BRA, Link, >R, R-AT, R>, CATCH, RESETSP, THROW, JSL, JSR, EXIT, Op, SHUFFLE, JUMP, LINK, ONE, TWO, FETCH, STORE, LITERAL, Operand, none, number, offset, table, entryAt}
+use Rattle.machine.specs.Reach.{alone}
 use Rattle.machine.specs.State.{Whole}
 use Rattle.machine.specs.Memory.{size, placeOf}
 use Rattle.machine.specs.Fetch.{Instruction, operandAt, instructionAt}
 use Rattle.machine.specs.Rows.{Row, top, second, topReturn, localsInView, cellsInView, cellsRow, throwRow, rowOf, linkRow, shuffled, target, twoRow, fetchRow, storeRow}
-use Rattle.machine.specs.Step.{Stepped, refused, done, stepOf, rowAt}
+use Rattle.machine.specs.Step.{done, stepOf, rowAt}
 use Rattle.machine.specs.Run.{After, ended, runFrom, acceptable, runOf}
 use Rattle.machine.specs.Fits.{Fits, AllBytes, Exist}
 use Rattle.machine.specs.Laws.Tables.{Everywhere, at-code}
+use Rattle.machine.specs.Laws.Along.{along}
 use Rattle.machine.specs.Laws.Passed.{step-done}
 use Rattle.machine.specs.Laws.Kept.{Formed, allowed-at, step-kept}
 use Rattle.machine.specs.Laws.Accepted.{taken}
 use Rattle.machine.specs.declared.Machine.{Machine}
+use Rattle.machine.specs.declared.Reach.{Reach}
 use Rattle.machine.specs.declared.Width.{Width}
 use Rattle.machine.specs.declared.Width.the-variants.{Byte, Word, Long}
 use Rattle.machine.specs.declared.Place.{Place}
@@ -83,6 +86,7 @@ module _ (i : Instruction) (mem : List ℕ) (m : Machine) (operand-fits : CellFi
   shuffled-fit PSP-AT = (omega (arith, formed .p-within), tt)
   shuffled-fit ZERO = (omega arith, tt)
   shuffled-fit DUP-NONZERO = picked-all (eqb (top m) 0) (top m ∷ []) (top m ∷ top m ∷ []) (cell-at _, tt) (cell-at _, (cell-at _, tt))
+  shuffled-fit PAUSE = tt
 
   target-fits : (o : Jump) → CellFits (target i mem m o)
   target-fits JMP = cell-at _
@@ -133,7 +137,13 @@ module _ (i : Instruction) (mem : List ℕ) (m : Machine) (operand-fits : CellFi
   cells-fit = level-in-view (m .links) (whole .shaped) (formed .sound) (h .links-fit) .cells-fit
 
   fetch-row-fits : (w : Width) (place : Place) → RowFits (fetchRow i mem m w place)
-  fetch-row-fits w (Memory a) = stays-fit _ (width-below w _ (number-below (size w) mem a (bytes-of mem bytes)), tt)
+  fetch-row-fits w (Memory a) =
+      record {
+        puts-fit = (width-below w _ (number-below (size w) mem a (bytes-of mem bytes)), tt);
+        goes-fits = next-fits;
+        link-fits = tt;
+        memory-fits = bytes;
+      }
   fetch-row-fits w (Local k) = stays-fit _ (all-read CellFits (localsInView m) locals-fit k 0 (omega arith), tt)
   fetch-row-fits w (Cell k) = stays-fit _ (all-read CellFits (cellsInView m) cells-fit k 0 (omega arith), tt)
   fetch-row-fits w Nowhere = record { puts-fit = tt; goes-fits = next-fits; link-fits = tt; memory-fits = bytes }
@@ -204,28 +214,28 @@ operand-below (number n) mem a t bytes =
 operand-below offset mem a t bytes = omega arith
 
 -- what a step leaves exists
-pub step-carries : (mem : List ℕ) (m : Machine) (mem′ : List ℕ) (m′ : Machine) (k : ℕ) → Formed m → Exist mem m →
-    stepOf mem m ≡ done mem′ m′ k → Exist mem′ m′
+pub step-carries : (reach : Reach) (mem : List ℕ) (m : Machine) (mem′ : List ℕ) (m′ : Machine) (k : ℕ) → Formed m → Exist mem m →
+    stepOf reach mem m ≡ done mem′ m′ k → Exist mem′ m′
 unfolding instructionAt
-step-carries mem m mem′ m′ k formed x e =
-    let d = step-done mem m mem′ m′ k e in
-    let g = step-kept mem m mem′ m′ k (x .whole) formed e in
+step-carries reach mem m mem′ m′ k formed x e =
+    let d = step-done reach mem m mem′ m′ k e in
+    let g = step-kept reach mem m mem′ m′ k (x .whole) formed e in
     let h = x .fits in
-    let i = instructionAt mem (m .counter) in
+    let i = instructionAt reach mem (m .counter) in
     let operand =
     operand-below (entryAt (i .code) .operand) mem (m .counter)
     (at-code (λ code e. smallOperand (e .operand)) operands-small (i .code)) (bytes-of mem (x .bytes)) in
     let next : CellFits (i .next) = omega arith in
     let row = row-fits i mem m operand next (x .bytes) (x .whole) formed h (entryAt (i .code) .op) in
     let links-fit =
-    act-fits (m .links) (x .whole .shaped) (formed .sound) (h .links-fit) (rowAt mem m .link) (row .link-fits) (allowed-at mem m mem′ m′ k formed d) in
+    act-fits (m .links) (x .whole .shaped) (formed .sound) (h .links-fit) (rowAt reach mem m .link) (row .link-fits) (allowed-at reach mem m mem′ m′ k formed d) in
     record {
       whole = g .whole;
       fits =
           record {
             cells-fit =
                 subst (λ (y : Machine). All CellFits (y .cells)) (sym (d .machine))
-                (all-sets CellFits (m .cells) (h .cells-fit) (rowAt mem m .keeps) (rowAt mem m .puts) (row .puts-fit));
+                (all-sets CellFits (m .cells) (h .cells-fit) (rowAt reach mem m .keeps) (rowAt reach mem m .puts) (row .puts-fit));
             p-fits = omega (arith, g .formed .p-within);
             links-fit = subst (λ (y : Machine). LinksFit (y .links)) (sym (d .machine)) links-fit;
             counter-fits = subst (λ (y : Machine). CellFits (y .counter)) (sym (d .machine)) (row .goes-fits);
@@ -238,22 +248,18 @@ step-carries mem m mem′ m′ k formed x e =
 abbrev ExistAfter : After → Type 0
 ExistAfter a = Exist (a .memory) (a .ran .machine)
 
-step-on : (s : Stepped) (left n c : ℕ) (mem : List ℕ) (m : Machine) → stepOf mem m ≡ s → Formed m → Exist mem m →
-    ((mem′ : List ℕ) (m′ : Machine) (n′ c′ : ℕ) → Formed m′ → Exist mem′ m′ → ExistAfter (runFrom left mem′ m′ n′ c′)) →
-    ExistAfter
-    (elim s as (λ x. After) [
-      | refused answer ↦ ended answer mem m n c
-      | done mem′ m′ cost ↦ runFrom left mem′ m′ (suc n) (c + cost)
-    ])
-step-on (refused answer) left n c mem m e formed x next = x
-step-on (done mem′ m′ cost) left n c mem m e formed x next =
-    next mem′ m′ (suc n) (c + cost) (step-kept mem m mem′ m′ cost (x .whole) formed e .formed) (step-carries mem m mem′ m′ cost formed x e)
+-- well formed and existing, whatever the counts
+abbrev Carried : List ℕ → Machine → ℕ → ℕ → Type 0
+Carried mem m n c = Formed m × Exist mem m
 
-rest-carries : (left : ℕ) (mem : List ℕ) (m : Machine) (n c : ℕ) → Formed m → Exist mem m → ExistAfter (runFrom left mem m n c)
-unfolding runFrom
-rest-carries zero mem m n c formed x = x
-rest-carries (suc left) mem m n c formed x =
-    step-on (stepOf mem m) left n c mem m refl formed x (λ mem′ m′ n′ c′. rest-carries left mem′ m′ n′ c′)
+pub rest-carries : (reach : Reach) (inTurns : Bool) (left : ℕ) (mem : List ℕ) (m : Machine) (n c : ℕ) → Formed m → Exist mem m →
+    ExistAfter (runFrom reach inTurns left mem m n c)
+rest-carries reach inTurns left mem m n c formed x = along reach inTurns Carried carried left mem m n c (formed, x) .1
+  where
+    carried : (mem : List ℕ) (m : Machine) (n c : ℕ) (mem′ : List ℕ) (m′ : Machine) (k : ℕ) → Carried mem m n c → stepOf reach mem m ≡ done mem′ m′ k →
+        Carried mem′ m′ (suc n) (c + k)
+    carried mem m n c mem′ m′ k now e =
+        (step-kept reach mem m mem′ m′ k (now .1 .whole) (now .0) e .formed, step-carries reach mem m mem′ m′ k (now .0) (now .1) e)
 
 pub run-carries : (mem : List ℕ) (m : Machine) (budget : ℕ) → Exist mem m →
     Exist (runOf mem m budget .memory) (runOf mem m budget .ran .machine)
@@ -261,7 +267,7 @@ unfolding runOf
 run-carries mem m budget x = go (acceptable mem m budget) refl
   where
     go : (b : Bool) → acceptable mem m budget ≡ b →
-        ExistAfter (elim b as (λ y. After) [ true ↦ runFrom budget mem m 0 0 | false ↦ ended 2 mem m 0 0 ])
+        ExistAfter (elim b as (λ y. After) [ true ↦ runFrom alone false budget mem m 0 0 | false ↦ ended 2 mem m 0 0 ])
     go true e =
-        rest-carries budget mem m 0 0 (taken mem m budget e .formed) x
+        rest-carries alone false budget mem m 0 0 (taken mem m budget e .formed) x
     go false e = x

@@ -1,22 +1,25 @@
 -- Clock cycles: each instruction takes from 1 to 42, so n steps report from n to 42n.
 use mathlib.Core.Path.{_≡_, refl, ap, _∙_, sym}
 use mathlib.Core.Bool.{Bool, true, false}
-use mathlib.Core.List.{List, map}
+use mathlib.Core.List.{List, [], _∷_, map}
 use Prim.Native.Nat.{ℕ, zero, suc, _+_, _*_, _≤_, _<_}
+use native.Mathlib.Nat.{le-of-suc-le-suc, not-suc-le-zero}
 use native.Mathlib.Omega.{arith}
-use borrow.Author.Tests.{lt-ltb, le-ltb}
+use borrow.Author.Tests.{lt-ltb, le-ltb, eqb-true, eqb-false}
 use lib.Dec.{leb, ltb, eqb, leb→le}
-use lib.ListN.{getD, List·getD-map, List·getD-eq-default}
+use lib.ListN.{getD, take, List·getD-map, List·getD-eq-default}
 use Rattle.plain.specs.Choice.{pick, both}
 use Rattle.plain.specs.Laws.Choice.{both-parts}
-use Rattle.machine.specs.Codes.{Entry, unknown, entryBEQ, entryBRA, tableEnd, table, entryAt, cyclesOf, cycleTable}
+use Rattle.machine.specs.Codes.{Entry, unknown, entryBEQ, entryBRA, cyclesEnd, table, entryAt, codePAUSE, cyclesOf, cycleTable}
 use Rattle.machine.specs.Fetch.{Instruction, instructionAt}
 use Rattle.machine.specs.Rows.{top}
-use Rattle.machine.specs.Step.{Stepped, refused, done, stepOf, costOf, cyclesOfThrowOfZero}
-use Rattle.machine.specs.Run.{After, ended, runFrom, CyclesBounded}
+use Rattle.machine.specs.Step.{done, stepOf, costOf, cyclesOfThrowOfZero}
+use Rattle.machine.specs.Run.{runFrom, CyclesBounded}
+use Rattle.machine.specs.Laws.Along.{along}
 use Rattle.machine.specs.Laws.Passed.{step-done}
 use Rattle.machine.specs.Laws.Tables.{Everywhere, at-code, getD-within}
 use Rattle.machine.specs.declared.Machine.{Machine}
+use Rattle.machine.specs.declared.Reach.{Reach}
 
 -- the bound, tested over an entry
 bounded : ℕ → Entry → Bool
@@ -36,20 +39,33 @@ picked code a e =
     (λ (b : Bool). pick b (getD table code unknown) (pick (ltb code 0xC0) entryBEQ entryBRA))
     e
 
+-- an entry within what is taken of a list
+getD-taken : (n : ℕ) (l : List Entry) (i : ℕ) → i < n → getD (take n l) i unknown ≡ getD l i unknown
+getD-taken zero l i h = absurd (not-suc-le-zero h)
+getD-taken (suc n) [] i h = refl
+getD-taken (suc n) (x ∷ xs) zero h = refl
+getD-taken (suc n) (x ∷ xs) (suc i) h = getD-taken n xs i (le-of-suc-le-suc h)
+
 -- an entry of the cycle table is the code's cycles
-pub cycle-at : (code : ℕ) → code < tableEnd → getD cycleTable code 0 ≡ cyclesOf code
+pub cycle-at : (code : ℕ) → code < cyclesEnd → getD cycleTable code 0 ≡ cyclesOf code
 unfolding cycleTable table
 cycle-at code h =
-    getD-within (map (λ (e : Entry). e .cycles) table) code 0 1 h ∙
-    (List·getD-map (λ (e : Entry). e .cycles) table code unknown ∙
-    sym (ap (λ (e : Entry). e .cycles) (picked code true (lt-ltb code 0x80 (omega arith)))))
+    getD-within (map (λ (e : Entry). e .cycles) (take cyclesEnd table)) code 0 1 h ∙
+    (List·getD-map (λ (e : Entry). e .cycles) (take cyclesEnd table) code unknown ∙
+    (ap (λ (e : Entry). e .cycles) (getD-taken cyclesEnd table code h) ∙
+    sym (ap (λ (e : Entry). e .cycles) (picked code true (lt-ltb code 0x80 (omega arith))))))
 
--- past the table a code below 80 counts as 1, and a branch as 2
-pub cycle-past : (code : ℕ) → tableEnd ≤ code → code < 0x80 → cyclesOf code ≡ 1
-unfolding table
-cycle-past code h k =
-    ap (λ (e : Entry). e .cycles)
-    (picked code true (lt-ltb code 0x80 k) ∙ List·getD-eq-default table unknown h)
+-- past the cycle table a code below 80 counts as 1, PAUSE too, and a branch as 2
+pub cycle-past : (code : ℕ) → cyclesEnd ≤ code → code < 0x80 → cyclesOf code ≡ 1
+unfolding entryAt table
+cycle-past code h k = go (eqb code codePAUSE) refl
+  where
+    go : (b : Bool) → eqb code codePAUSE ≡ b → cyclesOf code ≡ 1
+    go true e = ap (λ (c : ℕ). cyclesOf c) (eqb-true code codePAUSE e)
+    go false e =
+        let other : code ≡ codePAUSE → ⊥ = eqb-false code codePAUSE e in
+        let past : suc codePAUSE ≤ code = omega arith in
+        ap (λ (e : Entry). e .cycles) (picked code true (lt-ltb code 0x80 k) ∙ List·getD-eq-default table unknown past)
 
 pub cycle-branch : (code : ℕ) → 0x80 ≤ code → cyclesOf code ≡ 2
 cycle-branch code h =
@@ -74,22 +90,15 @@ cost-bounded i m = go (both (eqb (i .code) 0x0D) (eqb (top m) 0))
     go true = (omega arith, omega arith)
     go false = cycles-bounded (i .code)
 
-counted-step : (s : Stepped) (left n c : ℕ) (mem : List ℕ) (m : Machine) → stepOf mem m ≡ s → n ≤ c → c ≤ 42 * n →
-    ((mem′ : List ℕ) (m′ : Machine) (n′ c′ : ℕ) → n′ ≤ c′ → c′ ≤ 42 * n′ → CyclesBounded (runFrom left mem′ m′ n′ c′)) →
-    CyclesBounded
-    (elim s as (λ x. After) [
-      | refused number ↦ ended number mem m n c
-      | done mem′ m′ cost ↦ runFrom left mem′ m′ (suc n) (c + cost)
-    ])
-counted-step (refused number) left n c mem m e lo hi next = record { least = lo; most = hi }
-counted-step (done mem′ m′ cost) left n c mem m e lo hi next =
-    let b = cost-bounded (instructionAt mem (m .counter)) m in
-    let k = step-done mem m mem′ m′ cost e .cost in
-    let lower : suc n ≤ c + cost = omega (arith, k) in
-    let upper : c + cost ≤ 42 * suc n = omega (arith, k) in
-    next mem′ m′ (suc n) (c + cost) lower upper
-
-pub run-bounded : (left : ℕ) (mem : List ℕ) (m : Machine) (n c : ℕ) → n ≤ c → c ≤ 42 * n → CyclesBounded (runFrom left mem m n c)
-unfolding runFrom
-run-bounded zero mem m n c lo hi = record { least = lo; most = hi }
-run-bounded (suc left) mem m n c lo hi = counted-step (stepOf mem m) left n c mem m refl lo hi (run-bounded left)
+pub run-bounded : (reach : Reach) (inTurns : Bool) (left : ℕ) (mem : List ℕ) (m : Machine) (n c : ℕ) → n ≤ c → c ≤ 42 * n →
+    CyclesBounded (runFrom reach inTurns left mem m n c)
+run-bounded reach inTurns left mem m n c lo hi =
+    let b = along reach inTurns (λ mem m n c. (n ≤ c) × (c ≤ 42 * n)) counted left mem m n c (lo, hi) in
+    record { least = b .0; most = b .1 }
+  where
+    counted : (mem : List ℕ) (m : Machine) (n c : ℕ) (mem′ : List ℕ) (m′ : Machine) (k : ℕ) → (n ≤ c) × (c ≤ 42 * n) → stepOf reach mem m ≡ done mem′ m′ k →
+        (suc n ≤ c + k) × (c + k ≤ 42 * suc n)
+    counted mem m n c mem′ m′ k now e =
+        let b = cost-bounded (instructionAt reach mem (m .counter)) m in
+        let is = step-done reach mem m mem′ m′ k e .cost in
+        (omega (arith, is), omega (arith, is))

@@ -21,6 +21,7 @@ use Rattle.machine.specs.Laws.Passed.{Done, step-done, passed-at}
 use Rattle.machine.specs.Laws.Told.{Fair, fair}
 use Rattle.machine.specs.Laws.Granted.{granted}
 use Rattle.machine.specs.declared.Machine.{Machine}
+use Rattle.machine.specs.declared.Reach.{Reach}
 
 -- well formed, part by part
 pub record Formed (m : Machine) : Type 0 where
@@ -41,17 +42,17 @@ unfolding wellFormed
 formed-true m h = rw (le-leb (m .p) cellsDepth (h .p-within), le-leb (m .flag) 1 (h .flag-within)) (linked-true (m .links) (h .sound))
 
 -- the row at the program counter is fair
-pub fair-at : (mem : List ℕ) (m : Machine) →
-    Fair (instructionAt mem (m .counter)) m mem (entryAt (instructionAt mem (m .counter) .code) .op) (rowAt mem m)
-fair-at mem m =
-    fair (instructionAt mem (m .counter)) mem m (entryAt (instructionAt mem (m .counter) .code) .op)
+pub fair-at : (reach : Reach) (mem : List ℕ) (m : Machine) →
+    Fair (instructionAt reach mem (m .counter)) m mem (entryAt (instructionAt reach mem (m .counter) .code) .op) (rowAt reach mem m)
+fair-at reach mem m =
+    fair (instructionAt reach mem (m .counter)) mem m (entryAt (instructionAt reach mem (m .counter) .code) .op)
 
 -- a step that is done carries out an action that the linked stacks allow
-pub allowed-at : (mem : List ℕ) (m : Machine) (mem′ : List ℕ) (m′ : Machine) (k : ℕ) → Formed m → Done mem m mem′ m′ k →
-    Allowed (rowAt mem m .link) (m .links)
-allowed-at mem m mem′ m′ k h d =
-    granted (instructionAt mem (m .counter)) m (rowAt mem m) (h .p-within) (d .passed) (rowAt mem m .link) refl
-    (fair-at mem m .tells)
+pub allowed-at : (reach : Reach) (mem : List ℕ) (m : Machine) (mem′ : List ℕ) (m′ : Machine) (k : ℕ) → Formed m → Done reach mem m mem′ m′ k →
+    Allowed (rowAt reach mem m .link) (m .links)
+allowed-at reach mem m mem′ m′ k h d =
+    granted (instructionAt reach mem (m .counter)) m (rowAt reach mem m) (h .p-within) (d .passed) (rowAt reach mem m .link) refl
+    (fair-at reach mem m .tells)
 
 -- what a step leaves: whole, well formed, and the memory as long as it was
 pub record Good (mem mem′ : List ℕ) (m′ : Machine) : Type 0 where
@@ -59,11 +60,11 @@ pub record Good (mem mem′ : List ℕ) (m′ : Machine) : Type 0 where
   pub formed : Formed m′
   pub same-length : length mem′ ≡ length mem
 
-put-good : (mem : List ℕ) (m : Machine) (mem′ : List ℕ) (m′ : Machine) (k : ℕ) → Whole m → Formed m → Done mem m mem′ m′ k →
-    Good mem (rowAt mem m .memory) (put (rowAt mem m) m)
-put-good mem m mem′ m′ k w h d =
-    let row = rowAt mem m in
-    let f = fair-at mem m in
+put-good : (reach : Reach) (mem : List ℕ) (m : Machine) (mem′ : List ℕ) (m′ : Machine) (k : ℕ) → Whole m → Formed m → Done reach mem m mem′ m′ k →
+    Good mem (rowAt reach mem m .memory) (put (rowAt reach mem m) m)
+put-good reach mem m mem′ m′ k w h d =
+    let row = rowAt reach mem m in
+    let f = fair-at reach mem m in
     record {
       whole =
           record {
@@ -72,16 +73,16 @@ put-good mem m mem′ m′ k w h d =
           };
       formed =
           record {
-            p-within = ltb-false cellsDepth (row .keeps + length (row .puts)) (passed-at 8 (testsAt mem m) (d .passed));
+            p-within = ltb-false cellsDepth (row .keeps + length (row .puts)) (passed-at 8 (testsAt reach mem m) (d .passed));
             flag-within = f .flag-within (h .flag-within);
-            sound = kept (row .link) (m .links) (w .shaped) (h .sound) (allowed-at mem m mem′ m′ k h d);
+            sound = kept (row .link) (m .links) (w .shaped) (h .sound) (allowed-at reach mem m mem′ m′ k h d);
           };
       same-length = f .same-length;
     }
 
-pub step-kept : (mem : List ℕ) (m : Machine) (mem′ : List ℕ) (m′ : Machine) (k : ℕ) → Whole m → Formed m →
-    stepOf mem m ≡ done mem′ m′ k → Good mem mem′ m′
-step-kept mem m mem′ m′ k w h e =
-    let d = step-done mem m mem′ m′ k e in
+pub step-kept : (reach : Reach) (mem : List ℕ) (m : Machine) (mem′ : List ℕ) (m′ : Machine) (k : ℕ) → Whole m → Formed m →
+    stepOf reach mem m ≡ done mem′ m′ k → Good mem mem′ m′
+step-kept reach mem m mem′ m′ k w h e =
+    let d = step-done reach mem m mem′ m′ k e in
     subst (λ (x : Machine). Good mem mem′ x) (sym (d .machine))
-    (subst (λ (x : List ℕ). Good mem x (put (rowAt mem m) m)) (sym (d .memory)) (put-good mem m mem′ m′ k w h d))
+    (subst (λ (x : List ℕ). Good mem x (put (rowAt reach mem m) m)) (sym (d .memory)) (put-good reach mem m mem′ m′ k w h d))

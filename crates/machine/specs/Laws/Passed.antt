@@ -10,6 +10,7 @@ use Rattle.machine.specs.Fetch.{instructionAt}
 use Rattle.machine.specs.Checks.{Test}
 use Rattle.machine.specs.Step.{Stepped, refused, done, put, costOf, unless, carried, rowAt, testsAt, stepOf}
 use Rattle.machine.specs.declared.Machine.{Machine}
+use Rattle.machine.specs.declared.Reach.{Reach}
 
 -- no test of the list holds
 abbrev pub AllPass : List Test → Type 0
@@ -44,17 +45,17 @@ passed-at number (t ∷ ts) h = go (passed-at number ts (h .1)) (eqb (t .number)
     go later true = h .0
     go later false = later
 
-pub record Done (mem : List ℕ) (m : Machine) (mem′ : List ℕ) (m′ : Machine) (k : ℕ) : Type 0 where
-  pub passed : AllPass (testsAt mem m)
-  pub memory : mem′ ≡ rowAt mem m .memory
-  pub machine : m′ ≡ put (rowAt mem m) m
-  pub cost : k ≡ costOf (instructionAt mem (m .counter)) m
+pub record Done (reach : Reach) (mem : List ℕ) (m : Machine) (mem′ : List ℕ) (m′ : Machine) (k : ℕ) : Type 0 where
+  pub passed : AllPass (testsAt reach mem m)
+  pub memory : mem′ ≡ rowAt reach mem m .memory
+  pub machine : m′ ≡ put (rowAt reach mem m) m
+  pub cost : k ≡ costOf (instructionAt reach mem (m .counter)) m
 
-pub step-done : (mem : List ℕ) (m : Machine) (mem′ : List ℕ) (m′ : Machine) (k : ℕ) →
-    stepOf mem m ≡ done mem′ m′ k → Done mem m mem′ m′ k
+pub step-done : (reach : Reach) (mem : List ℕ) (m : Machine) (mem′ : List ℕ) (m′ : Machine) (k : ℕ) →
+    stepOf reach mem m ≡ done mem′ m′ k → Done reach mem m mem′ m′ k
 unfolding stepOf carried
-step-done mem m mem′ m′ k e =
-    let i = instructionAt mem (m .counter) in
+step-done reach mem m mem′ m′ k e =
+    let i = instructionAt reach mem (m .counter) in
     let u =
-    unless-done (testsAt mem m) (done (rowAt mem m .memory) (put (rowAt mem m) m) (costOf i m)) mem′ m′ k e in
+    unless-done (testsAt reach mem m) (done (rowAt reach mem m .memory) (put (rowAt reach mem m) m) (costOf i m)) mem′ m′ k e in
     record { passed = u .passed; memory = cc (u .same); machine = cc (u .same); cost = cc (u .same) }

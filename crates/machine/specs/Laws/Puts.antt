@@ -13,7 +13,7 @@ use Rattle.word.specs.declared.Outcome.{Outcome}
 use Rattle.word.specs.declared.Outcome.the-variants.{Single, Double, DivisorZero}
 use Rattle.word.specs.declared.TwoCells.{TwoCells}
 use Rattle.word.specs.declared.TwoCells.the-variants.{Plus, Minus, AddExtended, SubtractExtended, Equal, Unequal, Less, Greater, Below, Above, AndBits, OrBits, XorBits, MultiplySigned, MultiplyUnsigned, DivideSigned, DivideUnsigned}
-use Rattle.machine.specs.Codes.{Shuffle, NOP, DROP, DUP, SWAP, OVER, NIP, ROT, PSP-AT, ZERO, DUP-NONZERO, Link, >R, R-AT, R>, CATCH, RESETSP, THROW, JSL, JSR, EXIT, Op, SHUFFLE, JUMP, LINK, ONE, TWO, FETCH, STORE, LITERAL, table, entryAt}
+use Rattle.machine.specs.Codes.{Shuffle, NOP, DROP, DUP, SWAP, OVER, NIP, ROT, PSP-AT, ZERO, DUP-NONZERO, PAUSE, Link, >R, R-AT, R>, CATCH, RESETSP, THROW, JSL, JSR, EXIT, Op, SHUFFLE, JUMP, LINK, ONE, TWO, FETCH, STORE, LITERAL, table, entryAt}
 use Rattle.machine.specs.Memory.{placeOf}
 use Rattle.machine.specs.Fetch.{Instruction}
 use Rattle.machine.specs.Rows.{Row, aPlace, aDivisor, top, second, cellsRow, throwRow, rowOf, linkRow, shuffled, twoRow, fetchRow, storeRow}
@@ -37,6 +37,7 @@ putsOfShuffle ROT = 3
 putsOfShuffle PSP-AT = 1
 putsOfShuffle ZERO = 1
 putsOfShuffle DUP-NONZERO = 2
+putsOfShuffle PAUSE = 0
 
 abbrev putsOfLink : Link → ℕ
 putsOfLink >R = 0
@@ -99,6 +100,7 @@ module _ (i : Instruction) (mem : List ℕ) (m : Machine) where
       go : (b : Bool) → length (pick b (top m ∷ []) (top m ∷ top m ∷ [])) ≤ 2
       go true = omega arith
       go false = omega arith
+  shuffle-puts PAUSE = exactly _ _ refl refl
 
   link-puts : (o : Link) → Puts (LINK o) (linkRow i mem m o)
   link-puts >R = exactly _ _ refl refl

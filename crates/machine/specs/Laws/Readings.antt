@@ -15,35 +15,36 @@ use Rattle.machine.specs.Step.{done, stepOf, put, rowAt}
 use Rattle.machine.specs.AfterThrow.{AfterThrow}
 use Rattle.machine.specs.Laws.Passed.{step-done}
 use Rattle.machine.specs.declared.Machine.{Machine}
+use Rattle.machine.specs.declared.Reach.{Reach}
 
 -- the row of a code that is known
-row-of : (mem : List ℕ) (m : Machine) (code : ℕ) → byteAt mem (m .counter) ≡ code →
-    rowAt mem m ≡ rowOf (instructionAt mem (m .counter)) mem m (entryAt code .op)
+row-of : (reach : Reach) (mem : List ℕ) (m : Machine) (code : ℕ) → byteAt mem (m .counter) ≡ code →
+    rowAt reach mem m ≡ rowOf (instructionAt reach mem (m .counter)) mem m (entryAt code .op)
 unfolding instructionAt
-row-of mem m code is = ap (λ (c : ℕ). rowOf (instructionAt mem (m .counter)) mem m (entryAt c .op)) is
+row-of reach mem m code is = ap (λ (c : ℕ). rowOf (instructionAt reach mem (m .counter)) mem m (entryAt c .op)) is
 
 -- what a step leaves, by its row
-left-by : (mem : List ℕ) (m : Machine) (mem′ : List ℕ) (m′ : Machine) (k : ℕ) (row : Row) → rowAt mem m ≡ row →
-    stepOf mem m ≡ done mem′ m′ k → m′ ≡ put row m
-left-by mem m mem′ m′ k row is e = step-done mem m mem′ m′ k e .machine ∙ ap (λ (r : Row). put r m) is
+left-by : (reach : Reach) (mem : List ℕ) (m : Machine) (mem′ : List ℕ) (m′ : Machine) (k : ℕ) (row : Row) → rowAt reach mem m ≡ row →
+    stepOf reach mem m ≡ done mem′ m′ k → m′ ≡ put row m
+left-by reach mem m mem′ m′ k row is e = step-done reach mem m mem′ m′ k e .machine ∙ ap (λ (r : Row). put r m) is
 
 -- EXIT goes to the address in its subroutine level, whatever the return stack holds
-pub exit-goes : (mem : List ℕ) (m : Machine) (mem′ : List ℕ) (m′ : Machine) (k : ℕ) → stepOf mem m ≡ done mem′ m′ k →
+pub exit-goes : (reach : Reach) (mem : List ℕ) (m : Machine) (mem′ : List ℕ) (m′ : Machine) (k : ℕ) → stepOf reach mem m ≡ done mem′ m′ k →
     byteAt mem (m .counter) ≡ 0x3D → m′ .counter ≡ frameAt (m .links) (m .links .s) .address
 unfolding entryAt table rowOf
-exit-goes mem m mem′ m′ k e is =
-    ap (λ (x : Machine). x .counter) (left-by mem m mem′ m′ k _ (row-of mem m 0x3D is) e)
+exit-goes reach mem m mem′ m′ k e is =
+    ap (λ (x : Machine). x .counter) (left-by reach mem m mem′ m′ k _ (row-of reach mem m 0x3D is) e)
 
 throw-row : (i : Instruction) (mem : List ℕ) (m : Machine) → (top m ≡ 0 → ⊥) → rowOf i mem m (LINK THROW) ≡ throwRow i mem m
 unfolding rowOf
 throw-row i mem m other = ap (λ (b : Bool). pick b (cellsRow i mem m []) (throwRow i mem m)) (ne-eqb (top m) 0 other)
 
-pub throw-leaves : (mem : List ℕ) (m : Machine) (mem′ : List ℕ) (m′ : Machine) (k : ℕ) → stepOf mem m ≡ done mem′ m′ k →
+pub throw-leaves : (reach : Reach) (mem : List ℕ) (m : Machine) (mem′ : List ℕ) (m′ : Machine) (k : ℕ) → stepOf reach mem m ≡ done mem′ m′ k →
     byteAt mem (m .counter) ≡ 0x0D → (top m ≡ 0 → ⊥) → AfterThrow m m′
 unfolding entryAt table
-throw-leaves mem m mem′ m′ k e is other =
-    let i = instructionAt mem (m .counter) in
-    let l : m′ ≡ put (throwRow i mem m) m = left-by mem m mem′ m′ k _ (row-of mem m 0x0D is ∙ throw-row i mem m other) e in
+throw-leaves reach mem m mem′ m′ k e is other =
+    let i = instructionAt reach mem (m .counter) in
+    let l : m′ ≡ put (throwRow i mem m) m = left-by reach mem m mem′ m′ k _ (row-of reach mem m 0x0D is ∙ throw-row i mem m other) e in
     let p-is : m′ .p ≡ copyOfP (m .links .levels) (m .links .e) + 1 = ap (λ (x : Machine). x .p) l in
     record {
       goes = ap (λ (x : Machine). x .counter) l;

@@ -1,9 +1,9 @@
--- Made by .ci/named from run.rules: 43dbdf48effd2a1e 4052f87653606f9f
+-- Made by .ci/named from run.rules: 098eceebc08d00e4 40df662fca5bdf57
 -- Answer 2 is tested first, clause by clause; then the loop runs.
 use mathlib.Core.Bool.{true, false}
 use native.Mathlib.Omega.{arith}
 use Rattle.machine.specs.Run.{afterOf}
-use Rattle.run.proofs.Entry.{wrong-length, wrong-budget, judged, declined, taken}
+use Rattle.run.proofs.Entry.{wrong-length, wrong-budget, judged, run-declined, taken}
 use borrow.Author.Needs.{needs}
 use Rattle.run.proofs.run.Statement.{statement}
 use Rattle.run.proofs.run.Tie as tie
@@ -12,19 +12,19 @@ ended-requires : tie.Need-ended-requires
 ended-requires c κs = search needs
 
 returns : tie.Need-returns
-returns c = declined (c .before .before .before .args .mem .now) (c .before .before .before .args .machine) (c .before .before .before .args .budget) (wrong-length (c .before .before .before .args .mem .now) (c .before .before .before .args .machine) (c .before .before .before .args .budget) (c .before .if1 .taken)) (c .ended .result) (c .ended .ensures)
+returns c = run-declined (c .before .before .before .args .mem .now) (c .before .before .before .args .machine) (c .before .before .before .args .budget) (wrong-length (c .before .before .before .args .mem .now) (c .before .before .before .args .machine) (c .before .before .before .args .budget) (c .before .if1 .taken)) (c .ended .result) (c .ended .ensures)
 
 ended-requires-2 : tie.Need-ended-requires-2
 ended-requires-2 c κs = search needs
 
 returns-2 : tie.Need-returns-2
-returns-2 c = declined (c .before .before .before .before .args .mem .now) (c .before .before .before .before .args .machine) (c .before .before .before .before .args .budget) (wrong-budget (c .before .before .before .before .args .mem .now) (c .before .before .before .before .args .machine) (c .before .before .before .before .args .budget) (omega arith) (omega arith)) (c .ended2 .result) (c .ended2 .ensures)
+returns-2 c = run-declined (c .before .before .before .before .args .mem .now) (c .before .before .before .before .args .machine) (c .before .before .before .before .args .budget) (wrong-budget (c .before .before .before .before .args .mem .now) (c .before .before .before .before .args .machine) (c .before .before .before .before .args .budget) (omega arith) (omega arith)) (c .ended2 .result) (c .ended2 .ensures)
 
 well-formed-requires : tie.Need-well-formed-requires
 well-formed-requires c κs = search needs
 
 rounds-requires : tie.Need-rounds-requires
-rounds-requires c κs = (judged (c .before .before .before .before .before .before .args .mem .now) (c .before .before .before .before .before .before .args .machine) (c .before .before .before .before .before .before .args .budget) (omega arith) (omega arith) (c .before .before .well-formed .result) (c .before .before .well-formed .ensures) true (c .before .if3 .taken))
+rounds-requires c κs = ((judged (c .before .before .before .before .before .before .args .mem .now) (c .before .before .before .before .before .before .args .machine) (c .before .before .before .before .before .before .args .budget) (omega arith) (omega arith) (c .before .before .well-formed .result) (c .before .before .well-formed .ensures) true (c .before .if3 .taken)), record { shared-within = omega arith; end-within = omega arith })
 
 same-length : tie.Need-same-length
 same-length c = search needs
@@ -36,7 +36,7 @@ ended-requires-3 : tie.Need-ended-requires-3
 ended-requires-3 c κs = search needs
 
 returns-4 : tie.Need-returns-4
-returns-4 c = declined (c .before .before .before .before .before .before .args .mem .now) (c .before .before .before .before .before .before .args .machine) (c .before .before .before .before .before .before .args .budget) (judged (c .before .before .before .before .before .before .args .mem .now) (c .before .before .before .before .before .before .args .machine) (c .before .before .before .before .before .before .args .budget) (omega arith) (omega arith) (c .before .before .well-formed .result) (c .before .before .well-formed .ensures) false (c .before .if3 .left)) (c .ended3 .result) (c .ended3 .ensures)
+returns-4 c = run-declined (c .before .before .before .before .before .before .args .mem .now) (c .before .before .before .before .before .before .args .machine) (c .before .before .before .before .before .before .args .budget) (judged (c .before .before .before .before .before .before .args .mem .now) (c .before .before .before .before .before .before .args .machine) (c .before .before .before .before .before .before .args .budget) (omega arith) (omega arith) (c .before .before .well-formed .result) (c .before .before .well-formed .ensures) false (c .before .if3 .left)) (c .ended3 .result) (c .ended3 .ensures)
 
 pub run-spec : {M : Type 1} → statement M
 run-spec =

@@ -3,7 +3,7 @@ use mathlib.Core.List.{List, [], _∷_}
 use mathlib.Core.Path.{_≡_, refl}
 use Prim.Native.Nat.{ℕ, _+_}
 use Rattle.state.specs.Parts.{Field}
-use Rattle.state.specs.Layout.{frame, level, linksFields, links, stateFields, state, resultFields, result}
+use Rattle.state.specs.Layout.{frame, level, linksFields, links, stateFields, state, taskFields, task, tasks, resultFields, result}
 
 -- where each field begins, after so many bytes
 abbrev placesFrom : {A : Type 0} → ℕ → List (Field A) → List ℕ
@@ -16,6 +16,16 @@ state-places = refl
 
 pub state-takes : state .width ≡ 3528
 state-takes = refl
+
+-- machine, kept number
+pub task-places : placesFrom 0 taskFields ≡ 0 ∷ 3528 ∷ []
+task-places = refl
+
+pub task-takes : task .width ≡ 3536
+task-takes = refl
+
+pub tasks-take : tasks .width ≡ 14144
+tasks-take = refl
 
 -- within the links: return cells, R, frames of 76 bytes, S, exception levels of 52 bytes, E
 pub links-places : placesFrom 0 linksFields ≡ 0 ∷ 256 ∷ 264 ∷ 2772 ∷ 2780 ∷ 3248 ∷ []

@@ -1,6 +1,7 @@
--- Each part of a state is sound, and the whole is: no two machines that fit have the same bytes.
+-- Each part of a state is sound, and the whole is: no two machines that fit have the same bytes, nor do any two lists of tasks.
 use Rattle.links.specs.Depths.{cellsDepth, returnsDepth, framesCount, levelsCount, localsCount, levelCells}
-use Rattle.state.specs.Layout.{cell, pointer, frameFields, frame, levelFields, level, linksFields, links, stateFields, state}
+use Rattle.machine.specs.Limits.{tasksCount}
+use Rattle.state.specs.Layout.{cell, pointer, frameFields, frame, levelFields, level, linksFields, links, stateFields, state, taskFields, task, tasks}
 use Rattle.state.specs.Laws.Sound.{_and_, Sound, number-sound, array-sound, fields-sound}
 
 pub cell-sound : Sound cell
@@ -37,3 +38,9 @@ pub state-sound : Sound state
 state-sound =
     fields-sound stateFields (array-sound cell cell-sound cellsDepth and pointer-sound and links-sound and cell-sound and cell-sound and tt)
     (λ m n e i. record { cells = e .0 i; p = e .1 .0 i; links = e .1 .1 .0 i; counter = e .1 .1 .1 .0 i; flag = e .1 .1 .1 .1 .0 i })
+
+pub task-sound : Sound task
+task-sound = fields-sound taskFields (state-sound and pointer-sound and tt) (λ t u e i. record { machine = e .0 i; kept = e .1 .0 i })
+
+pub tasks-sound : Sound tasks
+tasks-sound = array-sound task task-sound tasksCount

@@ -1,11 +1,11 @@
--- Made by .ci/named from read_number.rules: a4aaac00915eb588 cd2be39262787406
+-- Made by .ci/named from read_number.rules: 7a1ebf1dd3b85582 73d3ecfad6293b8a
 -- By the width that the code names.
 use mathlib.Core.Path.{_≡_, ap}
 use native.Mathlib.Omega.{arith}
 use borrow.Author.Tests.{ne-eqb}
 use Rattle.machine.specs.Memory.{size}
 use Rattle.machine.specs.declared.Width.the-variants.{Byte}
-use Rattle.run.specs.Accesses.{widthOf}
+use Rattle.reach.specs.Spots.{widthOf}
 use borrow.Author.Needs.{needs}
 use Rattle.run.proofs.memory.read_number.Statement.{statement}
 use Rattle.run.proofs.memory.read_number.Tie as tie

@@ -1,11 +1,11 @@
--- Made by .ci/named from write_number.rules: deed567a69d1015d b039b690ef5fe0de
+-- Made by .ci/named from write_number.rules: e2d7229a86727549 de846dbc50c4713b
 -- What is written lies inside, so the bytes of the number stand there.
 use mathlib.Core.Path.{_≡_, ap}
 use native.Mathlib.Omega.{arith}
 use borrow.Author.Tests.{ne-eqb}
 use Rattle.machine.specs.Memory.{size}
 use Rattle.machine.specs.declared.Width.the-variants.{Byte}
-use Rattle.run.specs.Accesses.{widthOf}
+use Rattle.reach.specs.Spots.{widthOf}
 use Rattle.run.proofs.Written.{written}
 use borrow.Author.Needs.{needs}
 use Rattle.run.proofs.memory.write_number.Statement.{statement}

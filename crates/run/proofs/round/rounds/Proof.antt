@@ -1,58 +1,84 @@
--- Made by .ci/named from rounds.rules: 5a4eddd93093662d de6c61549cb81480
+-- Made by .ci/named from rounds.rules: 17859449c77b54ec 0dd1d6799127d77c
 -- The loop is the definition's run: each round is one step of `stepOf`, and what ends it is the definition's own.
 use mathlib.Core.Path.{_≡_, refl, ap, sym, _∙_}
+use mathlib.Core.Bool.{false}
 use mathlib.Core.Logic.{inl, inr}
 use Prim.Native.Nat.{ℕ, _<_}
 use native.Mathlib.Omega.{arith}
 use Rattle.links.specs.Actions.{noLocals}
-use Rattle.machine.specs.Codes.{table, cycleTable}
-use Rattle.run.specs.Accesses.{widthOf}
-use Rattle.run.specs.Answers.{saysFetched, saysChecked, saysExit, saysThrown, saysReached, saysDone}
-use Rattle.run.specs.Registers.{machineIn}
-use Rattle.run.specs.declared.Reached.the-variants as reached
+use Rattle.plain.specs.Answer.{refuses}
+use Rattle.machine.specs.Reach.{alone, isForeign}
+use Rattle.machine.specs.Codes.{table, codePAUSE, cycleTable}
+use Rattle.machine.specs.Fetch.{instructionAt}
+use Rattle.reach.specs.Spots.{widthOf}
+use Rattle.reach.specs.Spots.{saysReached}
+use Rattle.run.specs.Answers.{saysFetched, saysChecked, saysExit, saysThrown, saysDone}
+use Rattle.run.specs.Registers.{machineIn, haltedBy}
+use Rattle.reach.specs.declared.Reached.the-variants as reached
 use Rattle.run.specs.declared.Thrown.the-variants as thrown
 use Rattle.run.proofs.Answered.{told}
-use Rattle.run.proofs.Arms.{push-acts, copy-acts, pop-acts, catch-acts, reset-acts, throw-acts, exit-acts, call-acts, call-top-acts, fetch-acts, fetchedAs, store-acts, written-there, in-frame, in-level, cells-acts, cells-end}
+use Rattle.run.proofs.Arms.{push-acts, copy-acts, pop-acts, catch-acts, reset-acts, throw-acts, exit-acts, call-acts, call-top-acts, fetch-acts, fetchedAs, store-acts, written-there, in-frame, in-level, cells-acts, cells-end, pause-is}
 use Rattle.run.proofs.Loop.{starts, length-mapped}
-use Rattle.run.proofs.Rooms.{push-room, read-room, call-room, catch-room, exit-room, zero-room, code-room, memory-room, local-room, cell-room}
-use Rattle.run.proofs.Rounds.{Round, begins, Found, ends, goes, fetch-ends, halted-less}
+use Rattle.run.proofs.Rooms.{push-room, read-room, call-room, catch-room, exit-room, zero-room, code-room, memory-room, local-room, cell-room, own-room}
+use Rattle.run.proofs.Rounds.{Round, begins, Found, ends, goes, paused, fetch-ends, foreign-ends, halted-less}
 use borrow.Author.Needs.{needs}
 use Rattle.run.proofs.round.rounds.Statement.{statement}
 use Rattle.run.proofs.round.rounds.Tie as tie
 
 abbrev Inv-loop : tie.InvT-loop
-Inv-loop mem₀ budget costs cells₀ returns₀ frames₀ levels₀ regs₀ mem cells returns frames levels regs =
-    Round mem₀ (machineIn cells₀ returns₀ frames₀ levels₀ regs₀) budget mem cells returns frames levels regs × (costs ≡ cycleTable)
+Inv-loop mem₀ budget reach turns costs cells₀ returns₀ frames₀ levels₀ regs₀ mem cells returns frames levels regs =
+    Round reach turns mem₀ (machineIn cells₀ returns₀ frames₀ levels₀ regs₀) budget mem cells returns frames levels regs × (costs ≡ cycleTable)
 
 abbrev μ-loop : tie.MeasureT-loop
-μ-loop mem₀ budget costs cells₀ returns₀ frames₀ levels₀ regs₀ mem cells returns frames levels regs = regs .left .0
+μ-loop mem₀ budget reach turns costs cells₀ returns₀ frames₀ levels₀ regs₀ mem cells returns frames levels regs = regs .left .0
 
 abbrev loop-of : tie.After-known-told Inv-loop μ-loop → tie.At-loop Inv-loop μ-loop
-loop-of t = t .before .before .before .before .before .before .before
+loop-of t = t .before .before .before .before .before .before .before .before .before .before
 
 abbrev start-of : tie.After-known-told Inv-loop μ-loop → tie.Start Inv-loop μ-loop
-start-of t = t .before .before .before .before .before .before .before .before .before .before .before .before .before .before
+start-of t = t .before .before .before .before .before .before .before .before .before .before .before .before .before .before .before .before .before
+
+-- none of its bytes is in another's part
+own : (t : tie.After-known-told Inv-loop μ-loop) → isForeign (instructionAt (start-of t .args .reach) (loop-of t .loop .mem) (loop-of t .loop .regs .counter) .bar) ≡ false
+own t = sym (t .before .before .before .before .before .before .foreign .ensures) ∙ t .before .before .before .before .before .if2 .left
 
 -- an instruction is fetched
 found : (t : tie.After-known-told Inv-loop μ-loop) →
     let l = loop-of t .loop in
     let f = t .before .fetched .given .0 in
-    Found (start-of t .args .mem .now) (start-of t .args .start) (start-of t .args .budget)
+    Found (start-of t .args .reach) (start-of t .args .turns) (start-of t .args .mem .now) (start-of t .args .start) (start-of t .args .budget)
     (l .mem) (l .cells) (l .returns) (l .frames) (l .levels) (l .regs) (f .0) (f .1 .0) (f .1 .1 .0)
 found t =
     record {
       round = loop-of t .loop .inv .0;
-      less = t .before .before .before .before .before .if1 .taken;
-      fetched = told saysFetched (t .before .before .before .fetch .ensures) (t .before .fetched .given .1);
+      less = t .before .before .before .before .before .before .before .before .if1 .taken;
+      fetched =
+          told (λ f. saysFetched f (start-of t .args .reach))
+          (t .before .before .before .fetch .ensures (start-of t .args .reach) (own t)) (t .before .fetched .given .1);
     }
 
 -- a branch is no THROW
 branches-on : {code : ℕ} → 0x7F < code → code ≡ 0x0D → ⊥
 branches-on above h = omega arith
 
+no-pause : {code : ℕ} → 0x7F < code → code ≡ codePAUSE → ⊥
+no-pause above h = omega arith
+
 loop-holds : tie.Need-loop-holds Inv-loop μ-loop
 unfolding cycleTable table
-loop-holds c = (begins refl refl refl refl (starts (c .before .before .before .before .before .before .args .mem .now) (c .before .before .before .before .before .before .args .start) (c .before .before .before .before .before .before .args .budget) (c .before .before .before .before .before .before .pre) (record { cells-long = search needs; shaped = record { returns-long = search needs; frames-long = search (needs, length-mapped); levels-long = search (needs, length-mapped) } })), refl)
+loop-holds c = (begins refl refl refl refl (starts (c .before .before .before .before .before .before .args .reach) (c .before .before .before .before .before .before .args .turns) (c .before .before .before .before .before .before .args .mem .now) (c .before .before .before .before .before .before .args .start) (c .before .before .before .before .before .before .args .budget) (c .before .before .before .before .before .before .pre .0) (record { cells-long = search needs; shaped = record { returns-long = search needs; frames-long = search (needs, length-mapped); levels-long = search (needs, length-mapped) } })), refl)
+
+foreign-requires : tie.Need-foreign-requires Inv-loop μ-loop
+foreign-requires c κs = ((c .before .before .before .loop .inv .0) .long, c .before .before .before .before .before .before .before .before .before .before .pre .1 .shared-within)
+
+halted-requires : tie.Need-halted-requires Inv-loop μ-loop
+halted-requires c κs = search needs
+
+loop-less : tie.Need-loop-less Inv-loop μ-loop
+loop-less c = halted-less {A = Unit {0}} (c .before .before .before .before .before .before .loop .regs) {said = refuses 17} (c .halted .ensures) refl (c .before .before .before .before .if1 .taken)
+
+loop-again : tie.Need-loop-again Inv-loop μ-loop
+loop-again c = (foreign-ends (c .before .before .before .before .before .before .loop .inv .0) (c .before .before .before .before .if1 .taken) (c .before .before .foreign .ensures) (c .before .if2 .taken) (c .halted .ensures), c .before .before .before .before .before .before .loop .inv .1)
 
 fetch-requires : tie.Need-fetch-requires Inv-loop μ-loop
 fetch-requires c κs = search needs
@@ -66,11 +92,11 @@ enum-told c = search needs
 by-fetch-requires : tie.Need-by-fetch-requires Inv-loop μ-loop
 by-fetch-requires c κs = search needs
 
-loop-less : tie.Need-loop-less Inv-loop μ-loop
-loop-less c = halted-less (c .before .before .before .before .before .before .before .loop .regs) (c .by-fetch .ensures) (ap saysFetched (c .before .enum-told .given .1)) (c .before .before .before .before .before .if1 .taken)
+loop-less-2 : tie.Need-loop-less-2 Inv-loop μ-loop
+loop-less-2 c = halted-less (c .before .before .before .before .before .before .before .before .before .before .loop .regs) (c .by-fetch .ensures) (ap (λ f. saysFetched f alone) (c .before .enum-told .given .1)) (c .before .before .before .before .before .before .before .before .if1 .taken)
 
-loop-again : tie.Need-loop-again Inv-loop μ-loop
-loop-again c = (fetch-ends (c .before .before .before .before .before .before .before .loop .inv .0) (c .before .before .before .before .before .if1 .taken) (c .before .before .before .fetch .ensures) (ap saysFetched (c .before .enum-told .given .1)) (c .by-fetch .ensures), c .before .before .before .before .before .before .before .loop .inv .1)
+loop-again-2 : tie.Need-loop-again-2 Inv-loop μ-loop
+loop-again-2 c = (fetch-ends (c .before .before .before .before .before .before .before .before .before .before .loop .inv .0) (c .before .before .before .before .before .before .before .before .if1 .taken) (c .before .before .before .fetch .ensures) (c .before .before .before .before .before .before .foreign .ensures) (c .before .before .before .before .before .if2 .left) (ap (λ f. saysFetched f (c .before .before .before .before .before .before .before .before .before .before .before .before .before .before .before .before .before .args .reach)) (c .before .enum-told .given .1)) (c .by-fetch .ensures ∙ ap (λ a. haltedBy a (c .before .before .before .before .before .before .before .before .before .before .loop .regs)) (ap (λ f. saysFetched f alone) (c .before .enum-told .given .1))), c .before .before .before .before .before .before .before .before .before .before .loop .inv .1)
 
 branches-requires : tie.Need-branches-requires Inv-loop μ-loop
 branches-requires c κs = search needs
@@ -84,23 +110,23 @@ enum-told-2 c = search needs
 by-done-requires : tie.Need-by-done-requires Inv-loop μ-loop
 by-done-requires c κs = search needs
 
-loop-less-2 : tie.Need-loop-less-2 Inv-loop μ-loop
-loop-less-2 c = halted-less (c .before .before .before .before .before .before .before .before .before .before .before .before .before .loop .regs) (c .by-done .ensures) (ap saysDone (c .before .enum-told2 .given .1)) ((found (c .before .before .before .before .before .before)) .less)
+loop-less-3 : tie.Need-loop-less-3 Inv-loop μ-loop
+loop-less-3 c = halted-less (c .before .before .before .before .before .before .before .before .before .before .before .before .before .before .before .before .loop .regs) (c .by-done .ensures) (ap saysDone (c .before .enum-told2 .given .1)) ((found (c .before .before .before .before .before .before)) .less)
 
-loop-again-2 : tie.Need-loop-again-2 Inv-loop μ-loop
-loop-again-2 c = (cells-end (found (c .before .before .before .before .before .before)) (branches-on (c .before .before .before .before .before .if2 .taken)) (c .before .before .before .branches .ensures) (ap saysDone (c .before .enum-told2 .given .1)) (c .by-done .ensures), c .before .before .before .before .before .before .before .before .before .before .before .before .before .loop .inv .1)
+loop-again-3 : tie.Need-loop-again-3 Inv-loop μ-loop
+loop-again-3 c = (cells-end (found (c .before .before .before .before .before .before)) (branches-on (c .before .before .before .before .before .if3 .taken)) (no-pause (c .before .before .before .before .before .if3 .taken)) (c .before .before .before .branches .ensures) (ap saysDone (c .before .enum-told2 .given .1)) (c .by-done .ensures), c .before .before .before .before .before .before .before .before .before .before .before .before .before .before .before .before .loop .inv .1)
 
 price-requires : tie.Need-price-requires Inv-loop μ-loop
 price-requires c κs = search needs
 
 counted-requires : tie.Need-counted-requires Inv-loop μ-loop
-counted-requires c κs = search needs
+counted-requires c κs = ((found (c .before .before .before .before .before .before .before .before)) .less, ((omega (arith, (c .before .before .before .before .before .before .before .before .before .before .before .before .before .before .before .before .before .before .loop .inv .0) .priced, (c .before .before .before .before .before .before .before .before .before .before .before .before .before .before .before .before .before .before .loop .inv .0) .limit, (c .before .before .before .before .before .before .before .before .before .before .before .before .before .before .before .before .before .before .loop .inv .0) .left-within, (found (c .before .before .before .before .before .before .before .before)) .less)), c .price .ensures .1))
 
-loop-less-3 : tie.Need-loop-less-3 Inv-loop μ-loop
-loop-less-3 c = omega (arith, c .counted .ensures .1)
+loop-less-4 : tie.Need-loop-less-4 Inv-loop μ-loop
+loop-less-4 c = omega (arith, c .counted .ensures .1)
 
-loop-again-3 : tie.Need-loop-again-3 Inv-loop μ-loop
-loop-again-3 c = (goes (found (c .before .before .before .before .before .before .before .before .before)) (cells-acts (found (c .before .before .before .before .before .before .before .before .before)) (branches-on (c .before .before .before .before .before .before .before .before .if2 .taken)) (c .before .before .before .before .before .before .branches .ensures)) (ap saysDone (c .before .before .before .before .done .given .1)) refl refl (c .before .price .ensures .0) (c .counted .ensures .0), c .before .before .before .before .before .before .before .before .before .before .before .before .before .before .before .before .loop .inv .1)
+loop-again-4 : tie.Need-loop-again-4 Inv-loop μ-loop
+loop-again-4 c = (goes (found (c .before .before .before .before .before .before .before .before .before)) (cells-acts (found (c .before .before .before .before .before .before .before .before .before)) (branches-on (c .before .before .before .before .before .before .before .before .if3 .taken)) (no-pause (c .before .before .before .before .before .before .before .before .if3 .taken)) (c .before .before .before .before .before .before .branches .ensures)) (ap saysDone (c .before .before .before .before .done .given .1)) refl refl (c .before .price .ensures .0) (c .counted .ensures .0), c .before .before .before .before .before .before .before .before .before .before .before .before .before .before .before .before .before .before .before .loop .inv .1)
 
 can-push-requires : tie.Need-can-push-requires Inv-loop μ-loop
 can-push-requires c κs = search needs
@@ -114,11 +140,11 @@ enum-told-4 c = search needs
 by-check-requires : tie.Need-by-check-requires Inv-loop μ-loop
 by-check-requires c κs = search needs
 
-loop-less-4 : tie.Need-loop-less-4 Inv-loop μ-loop
-loop-less-4 c = halted-less (c .before .before .before .before .before .before .before .before .before .before .before .before .before .loop .regs) (c .by-check .ensures) (ap saysChecked (c .before .enum-told4 .given .1)) ((found (c .before .before .before .before .before .before)) .less)
+loop-less-5 : tie.Need-loop-less-5 Inv-loop μ-loop
+loop-less-5 c = halted-less (c .before .before .before .before .before .before .before .before .before .before .before .before .before .before .before .before .loop .regs) (c .by-check .ensures) (ap saysChecked (c .before .enum-told4 .given .1)) ((found (c .before .before .before .before .before .before)) .less)
 
-loop-again-4 : tie.Need-loop-again-4 Inv-loop μ-loop
-loop-again-4 c = (ends (found (c .before .before .before .before .before .before)) (push-acts (found (c .before .before .before .before .before .before)) (c .before .before .before .before .match3 .keys1)) (told saysChecked (c .before .before .before .can-push .ensures) (c .before .enum-told4 .given .1)) (c .before .before .before .can-push .ensures) (c .by-check .ensures), c .before .before .before .before .before .before .before .before .before .before .before .before .before .loop .inv .1)
+loop-again-5 : tie.Need-loop-again-5 Inv-loop μ-loop
+loop-again-5 c = (ends (found (c .before .before .before .before .before .before)) (push-acts (found (c .before .before .before .before .before .before)) (c .before .before .before .before .match3 .keys1)) (told saysChecked (c .before .before .before .can-push .ensures) (c .before .enum-told4 .given .1)) (c .before .before .before .can-push .ensures) (c .by-check .ensures), c .before .before .before .before .before .before .before .before .before .before .before .before .before .before .before .before .loop .inv .1)
 
 sub-returns : tie.Need-sub-returns Inv-loop μ-loop
 sub-returns c = omega (arith, push-room (told saysChecked (c .before .before .can-push .ensures) (c .enum-told3 .given .1)))
@@ -145,13 +171,13 @@ price-requires-2 : tie.Need-price-requires-2 Inv-loop μ-loop
 price-requires-2 c κs = search needs
 
 counted-requires-2 : tie.Need-counted-requires-2 Inv-loop μ-loop
-counted-requires-2 c κs = search needs
+counted-requires-2 c κs = ((found (c .before .before .before .before .before .before .before)) .less, ((omega (arith, (c .before .before .before .before .before .before .before .before .before .before .before .before .before .before .before .before .before .loop .inv .0) .priced, (c .before .before .before .before .before .before .before .before .before .before .before .before .before .before .before .before .before .loop .inv .0) .limit, (c .before .before .before .before .before .before .before .before .before .before .before .before .before .before .before .before .before .loop .inv .0) .left-within, (found (c .before .before .before .before .before .before .before)) .less)), c .price2 .ensures .1))
 
-loop-less-5 : tie.Need-loop-less-5 Inv-loop μ-loop
-loop-less-5 c = omega (arith, c .counted2 .ensures .1)
+loop-less-6 : tie.Need-loop-less-6 Inv-loop μ-loop
+loop-less-6 c = omega (arith, c .counted2 .ensures .1)
 
-loop-again-5 : tie.Need-loop-again-5 Inv-loop μ-loop
-loop-again-5 c = (goes (found (c .before .before .before .before .before .before .before .before)) (push-acts (found (c .before .before .before .before .before .before .before .before)) (c .before .before .before .before .before .before .match3 .keys1)) (told saysChecked (c .before .before .before .before .before .can-push .ensures) (c .before .before .before .enum-told3 .given .1)) refl refl (c .before .price2 .ensures .0) (c .counted2 .ensures .0), c .before .before .before .before .before .before .before .before .before .before .before .before .before .before .before .loop .inv .1)
+loop-again-6 : tie.Need-loop-again-6 Inv-loop μ-loop
+loop-again-6 c = (goes (found (c .before .before .before .before .before .before .before .before)) (push-acts (found (c .before .before .before .before .before .before .before .before)) (c .before .before .before .before .before .before .match3 .keys1)) (told saysChecked (c .before .before .before .before .before .can-push .ensures) (c .before .before .before .enum-told3 .given .1)) refl refl (c .before .price2 .ensures .0) (c .counted2 .ensures .0), c .before .before .before .before .before .before .before .before .before .before .before .before .before .before .before .before .before .before .loop .inv .1)
 
 can-read-requires : tie.Need-can-read-requires Inv-loop μ-loop
 can-read-requires c κs = search needs
@@ -165,11 +191,11 @@ enum-told-6 c = search needs
 by-check-requires-2 : tie.Need-by-check-requires-2 Inv-loop μ-loop
 by-check-requires-2 c κs = search needs
 
-loop-less-6 : tie.Need-loop-less-6 Inv-loop μ-loop
-loop-less-6 c = halted-less (c .before .before .before .before .before .before .before .before .before .before .before .before .before .loop .regs) (c .by-check2 .ensures) (ap saysChecked (c .before .enum-told6 .given .1)) ((found (c .before .before .before .before .before .before)) .less)
+loop-less-7 : tie.Need-loop-less-7 Inv-loop μ-loop
+loop-less-7 c = halted-less (c .before .before .before .before .before .before .before .before .before .before .before .before .before .before .before .before .loop .regs) (c .by-check2 .ensures) (ap saysChecked (c .before .enum-told6 .given .1)) ((found (c .before .before .before .before .before .before)) .less)
 
-loop-again-6 : tie.Need-loop-again-6 Inv-loop μ-loop
-loop-again-6 c = (ends (found (c .before .before .before .before .before .before)) (copy-acts (found (c .before .before .before .before .before .before)) (c .before .before .before .before .match3 .keys2)) (told saysChecked (c .before .before .before .can-read .ensures) (c .before .enum-told6 .given .1)) (c .before .before .before .can-read .ensures) (c .by-check2 .ensures), c .before .before .before .before .before .before .before .before .before .before .before .before .before .loop .inv .1)
+loop-again-7 : tie.Need-loop-again-7 Inv-loop μ-loop
+loop-again-7 c = (ends (found (c .before .before .before .before .before .before)) (copy-acts (found (c .before .before .before .before .before .before)) (c .before .before .before .before .match3 .keys2)) (told saysChecked (c .before .before .before .can-read .ensures) (c .before .enum-told6 .given .1)) (c .before .before .before .can-read .ensures) (c .by-check2 .ensures), c .before .before .before .before .before .before .before .before .before .before .before .before .before .before .before .before .loop .inv .1)
 
 sub-cells : tie.Need-sub-cells Inv-loop μ-loop
 sub-cells c = omega (arith, read-room (told saysChecked (c .before .before .can-read .ensures) (c .enum-told5 .given .1)))
@@ -193,13 +219,13 @@ price-requires-3 : tie.Need-price-requires-3 Inv-loop μ-loop
 price-requires-3 c κs = search needs
 
 counted-requires-3 : tie.Need-counted-requires-3 Inv-loop μ-loop
-counted-requires-3 c κs = search needs
+counted-requires-3 c κs = ((found (c .before .before .before .before .before .before .before)) .less, ((omega (arith, (c .before .before .before .before .before .before .before .before .before .before .before .before .before .before .before .before .before .loop .inv .0) .priced, (c .before .before .before .before .before .before .before .before .before .before .before .before .before .before .before .before .before .loop .inv .0) .limit, (c .before .before .before .before .before .before .before .before .before .before .before .before .before .before .before .before .before .loop .inv .0) .left-within, (found (c .before .before .before .before .before .before .before)) .less)), c .price3 .ensures .1))
 
-loop-less-7 : tie.Need-loop-less-7 Inv-loop μ-loop
-loop-less-7 c = omega (arith, c .counted3 .ensures .1)
+loop-less-8 : tie.Need-loop-less-8 Inv-loop μ-loop
+loop-less-8 c = omega (arith, c .counted3 .ensures .1)
 
-loop-again-7 : tie.Need-loop-again-7 Inv-loop μ-loop
-loop-again-7 c = (goes (found (c .before .before .before .before .before .before .before .before)) (copy-acts (found (c .before .before .before .before .before .before .before .before)) (c .before .before .before .before .before .before .match3 .keys2)) (told saysChecked (c .before .before .before .before .before .can-read .ensures) (c .before .before .before .enum-told5 .given .1)) refl refl (c .before .price3 .ensures .0) (c .counted3 .ensures .0), c .before .before .before .before .before .before .before .before .before .before .before .before .before .before .before .loop .inv .1)
+loop-again-8 : tie.Need-loop-again-8 Inv-loop μ-loop
+loop-again-8 c = (goes (found (c .before .before .before .before .before .before .before .before)) (copy-acts (found (c .before .before .before .before .before .before .before .before)) (c .before .before .before .before .before .before .match3 .keys2)) (told saysChecked (c .before .before .before .before .before .can-read .ensures) (c .before .before .before .enum-told5 .given .1)) refl refl (c .before .price3 .ensures .0) (c .counted3 .ensures .0), c .before .before .before .before .before .before .before .before .before .before .before .before .before .before .before .before .before .before .loop .inv .1)
 
 can-read-requires-2 : tie.Need-can-read-requires-2 Inv-loop μ-loop
 can-read-requires-2 c κs = search needs
@@ -213,11 +239,11 @@ enum-told-8 c = search needs
 by-check-requires-3 : tie.Need-by-check-requires-3 Inv-loop μ-loop
 by-check-requires-3 c κs = search needs
 
-loop-less-8 : tie.Need-loop-less-8 Inv-loop μ-loop
-loop-less-8 c = halted-less (c .before .before .before .before .before .before .before .before .before .before .before .before .before .loop .regs) (c .by-check3 .ensures) (ap saysChecked (c .before .enum-told8 .given .1)) ((found (c .before .before .before .before .before .before)) .less)
+loop-less-9 : tie.Need-loop-less-9 Inv-loop μ-loop
+loop-less-9 c = halted-less (c .before .before .before .before .before .before .before .before .before .before .before .before .before .before .before .before .loop .regs) (c .by-check3 .ensures) (ap saysChecked (c .before .enum-told8 .given .1)) ((found (c .before .before .before .before .before .before)) .less)
 
-loop-again-8 : tie.Need-loop-again-8 Inv-loop μ-loop
-loop-again-8 c = (ends (found (c .before .before .before .before .before .before)) (pop-acts (found (c .before .before .before .before .before .before)) (c .before .before .before .before .match3 .keys3) refl refl) (told saysChecked (c .before .before .before .can-read2 .ensures) (c .before .enum-told8 .given .1)) (c .before .before .before .can-read2 .ensures) (c .by-check3 .ensures), c .before .before .before .before .before .before .before .before .before .before .before .before .before .loop .inv .1)
+loop-again-9 : tie.Need-loop-again-9 Inv-loop μ-loop
+loop-again-9 c = (ends (found (c .before .before .before .before .before .before)) (pop-acts (found (c .before .before .before .before .before .before)) (c .before .before .before .before .match3 .keys3) refl refl) (told saysChecked (c .before .before .before .can-read2 .ensures) (c .before .enum-told8 .given .1)) (c .before .before .before .can-read2 .ensures) (c .by-check3 .ensures), c .before .before .before .before .before .before .before .before .before .before .before .before .before .before .before .before .loop .inv .1)
 
 mul-frame : tie.Need-mul-frame Inv-loop μ-loop
 mul-frame c = omega (arith, read-room (told saysChecked (c .before .before .can-read2 .ensures) (c .enum-told7 .given .1)))
@@ -265,13 +291,13 @@ price-requires-4 : tie.Need-price-requires-4 Inv-loop μ-loop
 price-requires-4 c κs = search needs
 
 counted-requires-4 : tie.Need-counted-requires-4 Inv-loop μ-loop
-counted-requires-4 c κs = search needs
+counted-requires-4 c κs = ((found (c .before .before .before .before .before .before .before .before .before .before .before)) .less, ((omega (arith, (c .before .before .before .before .before .before .before .before .before .before .before .before .before .before .before .before .before .before .before .before .before .loop .inv .0) .priced, (c .before .before .before .before .before .before .before .before .before .before .before .before .before .before .before .before .before .before .before .before .before .loop .inv .0) .limit, (c .before .before .before .before .before .before .before .before .before .before .before .before .before .before .before .before .before .before .before .before .before .loop .inv .0) .left-within, (found (c .before .before .before .before .before .before .before .before .before .before .before)) .less)), c .price4 .ensures .1))
 
-loop-less-9 : tie.Need-loop-less-9 Inv-loop μ-loop
-loop-less-9 c = omega (arith, c .counted4 .ensures .1)
+loop-less-10 : tie.Need-loop-less-10 Inv-loop μ-loop
+loop-less-10 c = omega (arith, c .counted4 .ensures .1)
 
-loop-again-9 : tie.Need-loop-again-9 Inv-loop μ-loop
-loop-again-9 c = (goes (found (c .before .before .before .before .before .before .before .before .before .before .before .before)) (pop-acts (found (c .before .before .before .before .before .before .before .before .before .before .before .before)) (c .before .before .before .before .before .before .before .before .before .before .match3 .keys3) (c .before .before .before .before .s-after-pop .ensures) (c .before .before .before .e-after-pop .ensures)) (told saysChecked (c .before .before .before .before .before .before .before .before .before .can-read2 .ensures) (c .before .before .before .before .before .before .before .enum-told7 .given .1)) refl refl (c .before .price4 .ensures .0) (c .counted4 .ensures .0), c .before .before .before .before .before .before .before .before .before .before .before .before .before .before .before .before .before .before .before .loop .inv .1)
+loop-again-10 : tie.Need-loop-again-10 Inv-loop μ-loop
+loop-again-10 c = (goes (found (c .before .before .before .before .before .before .before .before .before .before .before .before)) (pop-acts (found (c .before .before .before .before .before .before .before .before .before .before .before .before)) (c .before .before .before .before .before .before .before .before .before .before .match3 .keys3) (c .before .before .before .before .s-after-pop .ensures) (c .before .before .before .e-after-pop .ensures)) (told saysChecked (c .before .before .before .before .before .before .before .before .before .can-read2 .ensures) (c .before .before .before .before .before .before .before .enum-told7 .given .1)) refl refl (c .before .price4 .ensures .0) (c .counted4 .ensures .0), c .before .before .before .before .before .before .before .before .before .before .before .before .before .before .before .before .before .before .before .before .before .before .loop .inv .1)
 
 can-catch-requires : tie.Need-can-catch-requires Inv-loop μ-loop
 can-catch-requires c κs = search needs
@@ -285,11 +311,11 @@ enum-told-10 c = search needs
 by-check-requires-4 : tie.Need-by-check-requires-4 Inv-loop μ-loop
 by-check-requires-4 c κs = search needs
 
-loop-less-10 : tie.Need-loop-less-10 Inv-loop μ-loop
-loop-less-10 c = halted-less (c .before .before .before .before .before .before .before .before .before .before .before .before .before .loop .regs) (c .by-check4 .ensures) (ap saysChecked (c .before .enum-told10 .given .1)) ((found (c .before .before .before .before .before .before)) .less)
+loop-less-11 : tie.Need-loop-less-11 Inv-loop μ-loop
+loop-less-11 c = halted-less (c .before .before .before .before .before .before .before .before .before .before .before .before .before .before .before .before .loop .regs) (c .by-check4 .ensures) (ap saysChecked (c .before .enum-told10 .given .1)) ((found (c .before .before .before .before .before .before)) .less)
 
-loop-again-10 : tie.Need-loop-again-10 Inv-loop μ-loop
-loop-again-10 c = (ends (found (c .before .before .before .before .before .before)) (catch-acts (found (c .before .before .before .before .before .before)) (c .before .before .before .before .match3 .keys4) refl) (told saysChecked (c .before .before .before .can-catch .ensures) (c .before .enum-told10 .given .1)) (c .before .before .before .can-catch .ensures) (c .by-check4 .ensures), c .before .before .before .before .before .before .before .before .before .before .before .before .before .loop .inv .1)
+loop-again-11 : tie.Need-loop-again-11 Inv-loop μ-loop
+loop-again-11 c = (ends (found (c .before .before .before .before .before .before)) (catch-acts (found (c .before .before .before .before .before .before)) (c .before .before .before .before .match3 .keys4) refl) (told saysChecked (c .before .before .before .can-catch .ensures) (c .before .enum-told10 .given .1)) (c .before .before .before .can-catch .ensures) (c .by-check4 .ensures), c .before .before .before .before .before .before .before .before .before .before .before .before .before .before .before .before .loop .inv .1)
 
 mul-below : tie.Need-mul-below Inv-loop μ-loop
 mul-below c = omega (arith, catch-room (told saysChecked (c .before .before .can-catch .ensures) (c .enum-told9 .given .1)))
@@ -321,8 +347,8 @@ mul-frames c = omega (arith, catch-room (told saysChecked (c .before .before .be
 array-set-from-frames : tie.Need-array-set-from-frames Inv-loop μ-loop
 array-set-from-frames c = omega (arith, catch-room (told saysChecked (c .before .before .before .before .can-catch .ensures) (c .before .before .enum-told9 .given .1)))
 
-sub-t107 : tie.Need-sub-t107 Inv-loop μ-loop
-sub-t107 c = omega (arith, catch-room (told saysChecked (c .before .before .before .before .can-catch .ensures) (c .before .before .enum-told9 .given .1)))
+sub-t114 : tie.Need-sub-t114 Inv-loop μ-loop
+sub-t114 c = omega (arith, catch-room (told saysChecked (c .before .before .before .before .can-catch .ensures) (c .before .before .enum-told9 .given .1)))
 
 wrapping-add-u32-requires : tie.Need-wrapping-add-u32-requires Inv-loop μ-loop
 wrapping-add-u32-requires c κs = search needs
@@ -352,26 +378,26 @@ price-requires-5 : tie.Need-price-requires-5 Inv-loop μ-loop
 price-requires-5 c κs = search needs
 
 counted-requires-5 : tie.Need-counted-requires-5 Inv-loop μ-loop
-counted-requires-5 c κs = search needs
+counted-requires-5 c κs = ((found (c .before .before .before .before .before .before .before .before .before .before)) .less, ((omega (arith, (c .before .before .before .before .before .before .before .before .before .before .before .before .before .before .before .before .before .before .before .before .loop .inv .0) .priced, (c .before .before .before .before .before .before .before .before .before .before .before .before .before .before .before .before .before .before .before .before .loop .inv .0) .limit, (c .before .before .before .before .before .before .before .before .before .before .before .before .before .before .before .before .before .before .before .before .loop .inv .0) .left-within, (found (c .before .before .before .before .before .before .before .before .before .before)) .less)), c .price5 .ensures .1))
 
-loop-less-11 : tie.Need-loop-less-11 Inv-loop μ-loop
-loop-less-11 c = omega (arith, c .counted5 .ensures .1)
+loop-less-12 : tie.Need-loop-less-12 Inv-loop μ-loop
+loop-less-12 c = omega (arith, c .counted5 .ensures .1)
 
-loop-again-11 : tie.Need-loop-again-11 Inv-loop μ-loop
+loop-again-12 : tie.Need-loop-again-12 Inv-loop μ-loop
 unfolding noLocals
-loop-again-11 c = (goes (found (c .before .before .before .before .before .before .before .before .before .before .before)) (catch-acts (found (c .before .before .before .before .before .before .before .before .before .before .before)) (c .before .before .before .before .before .before .before .before .before .match3 .keys4) (c .before .before .before .wrapping-add-u32 .ensures)) (told saysChecked (c .before .before .before .before .before .before .before .before .can-catch .ensures) (c .before .before .before .before .before .before .enum-told9 .given .1)) refl refl (c .before .price5 .ensures .0) (c .counted5 .ensures .0), c .before .before .before .before .before .before .before .before .before .before .before .before .before .before .before .before .before .before .loop .inv .1)
+loop-again-12 c = (goes (found (c .before .before .before .before .before .before .before .before .before .before .before)) (catch-acts (found (c .before .before .before .before .before .before .before .before .before .before .before)) (c .before .before .before .before .before .before .before .before .before .match3 .keys4) (c .before .before .before .wrapping-add-u32 .ensures)) (told saysChecked (c .before .before .before .before .before .before .before .before .can-catch .ensures) (c .before .before .before .before .before .before .enum-told9 .given .1)) refl refl (c .before .price5 .ensures .0) (c .counted5 .ensures .0), c .before .before .before .before .before .before .before .before .before .before .before .before .before .before .before .before .before .before .before .before .before .loop .inv .1)
 
 price-requires-6 : tie.Need-price-requires-6 Inv-loop μ-loop
 price-requires-6 c κs = search needs
 
 counted-requires-6 : tie.Need-counted-requires-6 Inv-loop μ-loop
-counted-requires-6 c κs = search needs
+counted-requires-6 c κs = ((found (c .before .before .before .before)) .less, ((omega (arith, (c .before .before .before .before .before .before .before .before .before .before .before .before .before .before .loop .inv .0) .priced, (c .before .before .before .before .before .before .before .before .before .before .before .before .before .before .loop .inv .0) .limit, (c .before .before .before .before .before .before .before .before .before .before .before .before .before .before .loop .inv .0) .left-within, (found (c .before .before .before .before)) .less)), c .price6 .ensures .1))
 
-loop-less-12 : tie.Need-loop-less-12 Inv-loop μ-loop
-loop-less-12 c = omega (arith, c .counted6 .ensures .1)
+loop-less-13 : tie.Need-loop-less-13 Inv-loop μ-loop
+loop-less-13 c = omega (arith, c .counted6 .ensures .1)
 
-loop-again-12 : tie.Need-loop-again-12 Inv-loop μ-loop
-loop-again-12 c = (goes (found (c .before .before .before .before .before)) (reset-acts (found (c .before .before .before .before .before)) (c .before .before .before .match3 .keys5)) refl refl refl (c .before .price6 .ensures .0) (c .counted6 .ensures .0), c .before .before .before .before .before .before .before .before .before .before .before .before .loop .inv .1)
+loop-again-13 : tie.Need-loop-again-13 Inv-loop μ-loop
+loop-again-13 c = (goes (found (c .before .before .before .before .before)) (reset-acts (found (c .before .before .before .before .before)) (c .before .before .before .match3 .keys5)) refl refl refl (c .before .price6 .ensures .0) (c .counted6 .ensures .0), c .before .before .before .before .before .before .before .before .before .before .before .before .before .before .before .loop .inv .1)
 
 can-throw-requires : tie.Need-can-throw-requires Inv-loop μ-loop
 can-throw-requires c κs = search needs
@@ -385,71 +411,71 @@ enum-told-11 c = search needs
 by-throw-requires : tie.Need-by-throw-requires Inv-loop μ-loop
 by-throw-requires c κs = search needs
 
-loop-less-13 : tie.Need-loop-less-13 Inv-loop μ-loop
-loop-less-13 c = halted-less (c .before .before .before .before .before .before .before .before .before .before .before .before .before .before .loop .regs) (c .by-throw .ensures) (ap saysThrown (c .before .enum-told11 .given .1)) ((found (c .before .before .before .before .before .before .before)) .less)
+loop-less-14 : tie.Need-loop-less-14 Inv-loop μ-loop
+loop-less-14 c = halted-less (c .before .before .before .before .before .before .before .before .before .before .before .before .before .before .before .before .before .loop .regs) (c .by-throw .ensures) (ap saysThrown (c .before .enum-told11 .given .1)) ((found (c .before .before .before .before .before .before .before)) .less)
 
-loop-again-13 : tie.Need-loop-again-13 Inv-loop μ-loop
-loop-again-13 c = (ends (found (c .before .before .before .before .before .before .before)) (throw-acts (found (c .before .before .before .before .before .before .before)) (c .before .before .before .before .before .match3 .keys6)) (told saysThrown (c .before .before .before .can-throw .ensures) (c .before .enum-told11 .given .1)) (c .before .before .before .can-throw .ensures) (c .by-throw .ensures), c .before .before .before .before .before .before .before .before .before .before .before .before .before .before .loop .inv .1)
+loop-again-14 : tie.Need-loop-again-14 Inv-loop μ-loop
+loop-again-14 c = (ends (found (c .before .before .before .before .before .before .before)) (throw-acts (found (c .before .before .before .before .before .before .before)) (c .before .before .before .before .before .match3 .keys6)) (told saysThrown (c .before .before .before .can-throw .ensures) (c .before .enum-told11 .given .1)) (c .before .before .before .can-throw .ensures) (c .by-throw .ensures), c .before .before .before .before .before .before .before .before .before .before .before .before .before .before .before .before .before .loop .inv .1)
 
 enum-told-12 : tie.Need-enum-told-12 Inv-loop μ-loop
 enum-told-12 c = search needs
 
 sub-regs-4 : tie.Need-sub-regs-4 Inv-loop μ-loop
-sub-regs-4 c = omega (arith, zero-room (c .before .before .before .before .before .before .before .before .before .before .before .before .before .before .before .before .loop .cells) (c .before .before .before .before .before .before .before .before .before .before .before .before .before .before .before .before .loop .regs .e) (told saysThrown (c .before .before .before .before .before .can-throw .ensures) (c .before .before .before .thrown .given .1 ∙ ap thrown.Found (c .enum-told12 .given .1))))
+sub-regs-4 c = omega (arith, zero-room (c .before .before .before .before .before .before .before .before .before .before .before .before .before .before .before .before .before .before .before .loop .cells) (c .before .before .before .before .before .before .before .before .before .before .before .before .before .before .before .before .before .before .before .loop .regs .e) (told saysThrown (c .before .before .before .before .before .can-throw .ensures) (c .before .before .before .thrown .given .1 ∙ ap thrown.Found (c .enum-told12 .given .1))))
 
 counted-requires-7 : tie.Need-counted-requires-7 Inv-loop μ-loop
-counted-requires-7 c κs = search needs
+counted-requires-7 c κs = ((found (c .before .before .before .before .before .before .before .before .before)) .less, ((omega (arith, (c .before .before .before .before .before .before .before .before .before .before .before .before .before .before .before .before .before .before .before .loop .inv .0) .priced, (c .before .before .before .before .before .before .before .before .before .before .before .before .before .before .before .before .before .before .before .loop .inv .0) .limit, (c .before .before .before .before .before .before .before .before .before .before .before .before .before .before .before .before .before .before .before .loop .inv .0) .left-within, (found (c .before .before .before .before .before .before .before .before .before)) .less)), omega arith))
 
-loop-less-14 : tie.Need-loop-less-14 Inv-loop μ-loop
-loop-less-14 c = omega (arith, c .counted7 .ensures .1)
+loop-less-15 : tie.Need-loop-less-15 Inv-loop μ-loop
+loop-less-15 c = omega (arith, c .counted7 .ensures .1)
 
-loop-again-14 : tie.Need-loop-again-14 Inv-loop μ-loop
-loop-again-14 c = (goes (found (c .before .before .before .before .before .before .before .before .before .before)) (throw-acts (found (c .before .before .before .before .before .before .before .before .before .before)) (c .before .before .before .before .before .before .before .before .match3 .keys6)) (told saysThrown (c .before .before .before .before .before .before .can-throw .ensures) (c .before .before .before .before .thrown .given .1 ∙ ap thrown.Found (c .before .enum-told12 .given .1))) refl refl refl (c .counted7 .ensures .0), c .before .before .before .before .before .before .before .before .before .before .before .before .before .before .before .before .before .loop .inv .1)
+loop-again-15 : tie.Need-loop-again-15 Inv-loop μ-loop
+loop-again-15 c = (goes (found (c .before .before .before .before .before .before .before .before .before .before)) (throw-acts (found (c .before .before .before .before .before .before .before .before .before .before)) (c .before .before .before .before .before .before .before .before .match3 .keys6)) (told saysThrown (c .before .before .before .before .before .before .can-throw .ensures) (c .before .before .before .before .thrown .given .1 ∙ ap thrown.Found (c .before .enum-told12 .given .1))) refl refl refl (c .counted7 .ensures .0), c .before .before .before .before .before .before .before .before .before .before .before .before .before .before .before .before .before .before .before .before .loop .inv .1)
 
 enum-known-throw : tie.Need-enum-known-throw Inv-loop μ-loop
 enum-known-throw c = search needs
 
 mul-level-2 : tie.Need-mul-level-2 Inv-loop μ-loop
-mul-level-2 c = omega (arith, code-room (c .before .before .before .before .before .before .before .before .before .before .before .before .before .before .before .before .before .loop .cells) (c .before .before .before .before .before .before .before .before .before .before .before .before .before .before .before .before .before .loop .regs .p) (told saysThrown (c .before .before .before .before .before .before .can-throw .ensures) (c .before .before .before .before .thrown .given .1 ∙ ap thrown.Found (c .before .throw .given .1))), (c .before .before .before .before .before .before .before .before .before .before .before .before .before .before .before .before .before .loop .inv .0) .catcher (code-room (c .before .before .before .before .before .before .before .before .before .before .before .before .before .before .before .before .before .loop .cells) (c .before .before .before .before .before .before .before .before .before .before .before .before .before .before .before .before .before .loop .regs .p) (told saysThrown (c .before .before .before .before .before .before .can-throw .ensures) (c .before .before .before .before .thrown .given .1 ∙ ap thrown.Found (c .before .throw .given .1)))))
+mul-level-2 c = omega (arith, code-room (c .before .before .before .before .before .before .before .before .before .before .before .before .before .before .before .before .before .before .before .before .loop .cells) (c .before .before .before .before .before .before .before .before .before .before .before .before .before .before .before .before .before .before .before .before .loop .regs .p) (told saysThrown (c .before .before .before .before .before .before .can-throw .ensures) (c .before .before .before .before .thrown .given .1 ∙ ap thrown.Found (c .before .throw .given .1))), (c .before .before .before .before .before .before .before .before .before .before .before .before .before .before .before .before .before .before .before .before .loop .inv .0) .catcher (code-room (c .before .before .before .before .before .before .before .before .before .before .before .before .before .before .before .before .before .before .before .before .loop .cells) (c .before .before .before .before .before .before .before .before .before .before .before .before .before .before .before .before .before .before .before .before .loop .regs .p) (told saysThrown (c .before .before .before .before .before .before .can-throw .ensures) (c .before .before .before .before .thrown .given .1 ∙ ap thrown.Found (c .before .throw .given .1)))))
 
 array-copy-out-level-2 : tie.Need-array-copy-out-level-2 Inv-loop μ-loop
-array-copy-out-level-2 c = omega (arith, code-room (c .before .before .before .before .before .before .before .before .before .before .before .before .before .before .before .before .before .loop .cells) (c .before .before .before .before .before .before .before .before .before .before .before .before .before .before .before .before .before .loop .regs .p) (told saysThrown (c .before .before .before .before .before .before .can-throw .ensures) (c .before .before .before .before .thrown .given .1 ∙ ap thrown.Found (c .before .throw .given .1))), (c .before .before .before .before .before .before .before .before .before .before .before .before .before .before .before .before .before .loop .inv .0) .catcher (code-room (c .before .before .before .before .before .before .before .before .before .before .before .before .before .before .before .before .before .loop .cells) (c .before .before .before .before .before .before .before .before .before .before .before .before .before .before .before .before .before .loop .regs .p) (told saysThrown (c .before .before .before .before .before .before .can-throw .ensures) (c .before .before .before .before .thrown .given .1 ∙ ap thrown.Found (c .before .throw .given .1)))))
+array-copy-out-level-2 c = omega (arith, code-room (c .before .before .before .before .before .before .before .before .before .before .before .before .before .before .before .before .before .before .before .before .loop .cells) (c .before .before .before .before .before .before .before .before .before .before .before .before .before .before .before .before .before .before .before .before .loop .regs .p) (told saysThrown (c .before .before .before .before .before .before .can-throw .ensures) (c .before .before .before .before .thrown .given .1 ∙ ap thrown.Found (c .before .throw .given .1))), (c .before .before .before .before .before .before .before .before .before .before .before .before .before .before .before .before .before .before .before .before .loop .inv .0) .catcher (code-room (c .before .before .before .before .before .before .before .before .before .before .before .before .before .before .before .before .before .before .before .before .loop .cells) (c .before .before .before .before .before .before .before .before .before .before .before .before .before .before .before .before .before .before .before .before .loop .regs .p) (told saysThrown (c .before .before .before .before .before .before .can-throw .ensures) (c .before .before .before .before .thrown .given .1 ∙ ap thrown.Found (c .before .throw .given .1)))))
 
 add-frame : tie.Need-add-frame Inv-loop μ-loop
-add-frame c = omega (arith, code-room (c .before .before .before .before .before .before .before .before .before .before .before .before .before .before .before .before .before .before .loop .cells) (c .before .before .before .before .before .before .before .before .before .before .before .before .before .before .before .before .before .before .loop .regs .p) (told saysThrown (c .before .before .before .before .before .before .before .can-throw .ensures) (c .before .before .before .before .before .thrown .given .1 ∙ ap thrown.Found (c .before .before .throw .given .1))), (c .before .before .before .before .before .before .before .before .before .before .before .before .before .before .before .before .before .before .loop .inv .0) .catcher (code-room (c .before .before .before .before .before .before .before .before .before .before .before .before .before .before .before .before .before .before .loop .cells) (c .before .before .before .before .before .before .before .before .before .before .before .before .before .before .before .before .before .before .loop .regs .p) (told saysThrown (c .before .before .before .before .before .before .before .can-throw .ensures) (c .before .before .before .before .before .thrown .given .1 ∙ ap thrown.Found (c .before .before .throw .given .1)))))
+add-frame c = omega (arith, code-room (c .before .before .before .before .before .before .before .before .before .before .before .before .before .before .before .before .before .before .before .before .before .loop .cells) (c .before .before .before .before .before .before .before .before .before .before .before .before .before .before .before .before .before .before .before .before .before .loop .regs .p) (told saysThrown (c .before .before .before .before .before .before .before .can-throw .ensures) (c .before .before .before .before .before .thrown .given .1 ∙ ap thrown.Found (c .before .before .throw .given .1))), (c .before .before .before .before .before .before .before .before .before .before .before .before .before .before .before .before .before .before .before .before .before .loop .inv .0) .catcher (code-room (c .before .before .before .before .before .before .before .before .before .before .before .before .before .before .before .before .before .before .before .before .before .loop .cells) (c .before .before .before .before .before .before .before .before .before .before .before .before .before .before .before .before .before .before .before .before .before .loop .regs .p) (told saysThrown (c .before .before .before .before .before .before .before .can-throw .ensures) (c .before .before .before .before .before .thrown .given .1 ∙ ap thrown.Found (c .before .before .throw .given .1)))))
 
 mul-frame-2 : tie.Need-mul-frame-2 Inv-loop μ-loop
-mul-frame-2 c = omega (arith, code-room (c .before .before .before .before .before .before .before .before .before .before .before .before .before .before .before .before .before .before .loop .cells) (c .before .before .before .before .before .before .before .before .before .before .before .before .before .before .before .before .before .before .loop .regs .p) (told saysThrown (c .before .before .before .before .before .before .before .can-throw .ensures) (c .before .before .before .before .before .thrown .given .1 ∙ ap thrown.Found (c .before .before .throw .given .1))), (c .before .before .before .before .before .before .before .before .before .before .before .before .before .before .before .before .before .before .loop .inv .0) .catcher (code-room (c .before .before .before .before .before .before .before .before .before .before .before .before .before .before .before .before .before .before .loop .cells) (c .before .before .before .before .before .before .before .before .before .before .before .before .before .before .before .before .before .before .loop .regs .p) (told saysThrown (c .before .before .before .before .before .before .before .can-throw .ensures) (c .before .before .before .before .before .thrown .given .1 ∙ ap thrown.Found (c .before .before .throw .given .1)))))
+mul-frame-2 c = omega (arith, code-room (c .before .before .before .before .before .before .before .before .before .before .before .before .before .before .before .before .before .before .before .before .before .loop .cells) (c .before .before .before .before .before .before .before .before .before .before .before .before .before .before .before .before .before .before .before .before .before .loop .regs .p) (told saysThrown (c .before .before .before .before .before .before .before .can-throw .ensures) (c .before .before .before .before .before .thrown .given .1 ∙ ap thrown.Found (c .before .before .throw .given .1))), (c .before .before .before .before .before .before .before .before .before .before .before .before .before .before .before .before .before .before .before .before .before .loop .inv .0) .catcher (code-room (c .before .before .before .before .before .before .before .before .before .before .before .before .before .before .before .before .before .before .before .before .before .loop .cells) (c .before .before .before .before .before .before .before .before .before .before .before .before .before .before .before .before .before .before .before .before .before .loop .regs .p) (told saysThrown (c .before .before .before .before .before .before .before .can-throw .ensures) (c .before .before .before .before .before .thrown .given .1 ∙ ap thrown.Found (c .before .before .throw .given .1)))))
 
 array-copy-out-frame-2 : tie.Need-array-copy-out-frame-2 Inv-loop μ-loop
-array-copy-out-frame-2 c = omega (arith, code-room (c .before .before .before .before .before .before .before .before .before .before .before .before .before .before .before .before .before .before .loop .cells) (c .before .before .before .before .before .before .before .before .before .before .before .before .before .before .before .before .before .before .loop .regs .p) (told saysThrown (c .before .before .before .before .before .before .before .can-throw .ensures) (c .before .before .before .before .before .thrown .given .1 ∙ ap thrown.Found (c .before .before .throw .given .1))), (c .before .before .before .before .before .before .before .before .before .before .before .before .before .before .before .before .before .before .loop .inv .0) .catcher (code-room (c .before .before .before .before .before .before .before .before .before .before .before .before .before .before .before .before .before .before .loop .cells) (c .before .before .before .before .before .before .before .before .before .before .before .before .before .before .before .before .before .before .loop .regs .p) (told saysThrown (c .before .before .before .before .before .before .before .can-throw .ensures) (c .before .before .before .before .before .thrown .given .1 ∙ ap thrown.Found (c .before .before .throw .given .1)))))
+array-copy-out-frame-2 c = omega (arith, code-room (c .before .before .before .before .before .before .before .before .before .before .before .before .before .before .before .before .before .before .before .before .before .loop .cells) (c .before .before .before .before .before .before .before .before .before .before .before .before .before .before .before .before .before .before .before .before .before .loop .regs .p) (told saysThrown (c .before .before .before .before .before .before .before .can-throw .ensures) (c .before .before .before .before .before .thrown .given .1 ∙ ap thrown.Found (c .before .before .throw .given .1))), (c .before .before .before .before .before .before .before .before .before .before .before .before .before .before .before .before .before .before .before .before .before .loop .inv .0) .catcher (code-room (c .before .before .before .before .before .before .before .before .before .before .before .before .before .before .before .before .before .before .before .before .before .loop .cells) (c .before .before .before .before .before .before .before .before .before .before .before .before .before .before .before .before .before .before .before .before .before .loop .regs .p) (told saysThrown (c .before .before .before .before .before .before .before .can-throw .ensures) (c .before .before .before .before .before .thrown .given .1 ∙ ap thrown.Found (c .before .before .throw .given .1)))))
 
 mul-cells-5 : tie.Need-mul-cells-5 Inv-loop μ-loop
-mul-cells-5 c = omega (arith, code-room (c .before .before .before .before .before .before .before .before .before .before .before .before .before .before .before .before .before .before .before .loop .cells) (c .before .before .before .before .before .before .before .before .before .before .before .before .before .before .before .before .before .before .before .loop .regs .p) (told saysThrown (c .before .before .before .before .before .before .before .before .can-throw .ensures) (c .before .before .before .before .before .before .thrown .given .1 ∙ ap thrown.Found (c .before .before .before .throw .given .1))), (c .before .before .before .before .before .before .before .before .before .before .before .before .before .before .before .before .before .before .before .loop .inv .0) .catcher (code-room (c .before .before .before .before .before .before .before .before .before .before .before .before .before .before .before .before .before .before .before .loop .cells) (c .before .before .before .before .before .before .before .before .before .before .before .before .before .before .before .before .before .before .before .loop .regs .p) (told saysThrown (c .before .before .before .before .before .before .before .before .can-throw .ensures) (c .before .before .before .before .before .before .thrown .given .1 ∙ ap thrown.Found (c .before .before .before .throw .given .1)))))
+mul-cells-5 c = omega (arith, code-room (c .before .before .before .before .before .before .before .before .before .before .before .before .before .before .before .before .before .before .before .before .before .before .loop .cells) (c .before .before .before .before .before .before .before .before .before .before .before .before .before .before .before .before .before .before .before .before .before .before .loop .regs .p) (told saysThrown (c .before .before .before .before .before .before .before .before .can-throw .ensures) (c .before .before .before .before .before .before .thrown .given .1 ∙ ap thrown.Found (c .before .before .before .throw .given .1))), (c .before .before .before .before .before .before .before .before .before .before .before .before .before .before .before .before .before .before .before .before .before .before .loop .inv .0) .catcher (code-room (c .before .before .before .before .before .before .before .before .before .before .before .before .before .before .before .before .before .before .before .before .before .before .loop .cells) (c .before .before .before .before .before .before .before .before .before .before .before .before .before .before .before .before .before .before .before .before .before .before .loop .regs .p) (told saysThrown (c .before .before .before .before .before .before .before .before .can-throw .ensures) (c .before .before .before .before .before .before .thrown .given .1 ∙ ap thrown.Found (c .before .before .before .throw .given .1)))))
 
 array-write-cells-3 : tie.Need-array-write-cells-3 Inv-loop μ-loop
-array-write-cells-3 c = omega (arith, code-room (c .before .before .before .before .before .before .before .before .before .before .before .before .before .before .before .before .before .before .before .loop .cells) (c .before .before .before .before .before .before .before .before .before .before .before .before .before .before .before .before .before .before .before .loop .regs .p) (told saysThrown (c .before .before .before .before .before .before .before .before .can-throw .ensures) (c .before .before .before .before .before .before .thrown .given .1 ∙ ap thrown.Found (c .before .before .before .throw .given .1))), (c .before .before .before .before .before .before .before .before .before .before .before .before .before .before .before .before .before .before .before .loop .inv .0) .catcher (code-room (c .before .before .before .before .before .before .before .before .before .before .before .before .before .before .before .before .before .before .before .loop .cells) (c .before .before .before .before .before .before .before .before .before .before .before .before .before .before .before .before .before .before .before .loop .regs .p) (told saysThrown (c .before .before .before .before .before .before .before .before .can-throw .ensures) (c .before .before .before .before .before .before .thrown .given .1 ∙ ap thrown.Found (c .before .before .before .throw .given .1)))))
+array-write-cells-3 c = omega (arith, code-room (c .before .before .before .before .before .before .before .before .before .before .before .before .before .before .before .before .before .before .before .before .before .before .loop .cells) (c .before .before .before .before .before .before .before .before .before .before .before .before .before .before .before .before .before .before .before .before .before .before .loop .regs .p) (told saysThrown (c .before .before .before .before .before .before .before .before .can-throw .ensures) (c .before .before .before .before .before .before .thrown .given .1 ∙ ap thrown.Found (c .before .before .before .throw .given .1))), (c .before .before .before .before .before .before .before .before .before .before .before .before .before .before .before .before .before .before .before .before .before .before .loop .inv .0) .catcher (code-room (c .before .before .before .before .before .before .before .before .before .before .before .before .before .before .before .before .before .before .before .before .before .before .loop .cells) (c .before .before .before .before .before .before .before .before .before .before .before .before .before .before .before .before .before .before .before .before .before .before .loop .regs .p) (told saysThrown (c .before .before .before .before .before .before .before .before .can-throw .ensures) (c .before .before .before .before .before .before .thrown .given .1 ∙ ap thrown.Found (c .before .before .before .throw .given .1)))))
 
 add-regs-7 : tie.Need-add-regs-7 Inv-loop μ-loop
-add-regs-7 c = omega (arith, code-room (c .before .before .before .before .before .before .before .before .before .before .before .before .before .before .before .before .before .before .before .loop .cells) (c .before .before .before .before .before .before .before .before .before .before .before .before .before .before .before .before .before .before .before .loop .regs .p) (told saysThrown (c .before .before .before .before .before .before .before .before .can-throw .ensures) (c .before .before .before .before .before .before .thrown .given .1 ∙ ap thrown.Found (c .before .before .before .throw .given .1))), (c .before .before .before .before .before .before .before .before .before .before .before .before .before .before .before .before .before .before .before .loop .inv .0) .catcher (code-room (c .before .before .before .before .before .before .before .before .before .before .before .before .before .before .before .before .before .before .before .loop .cells) (c .before .before .before .before .before .before .before .before .before .before .before .before .before .before .before .before .before .before .before .loop .regs .p) (told saysThrown (c .before .before .before .before .before .before .before .before .can-throw .ensures) (c .before .before .before .before .before .before .thrown .given .1 ∙ ap thrown.Found (c .before .before .before .throw .given .1)))))
+add-regs-7 c = omega (arith, code-room (c .before .before .before .before .before .before .before .before .before .before .before .before .before .before .before .before .before .before .before .before .before .before .loop .cells) (c .before .before .before .before .before .before .before .before .before .before .before .before .before .before .before .before .before .before .before .before .before .before .loop .regs .p) (told saysThrown (c .before .before .before .before .before .before .before .before .can-throw .ensures) (c .before .before .before .before .before .before .thrown .given .1 ∙ ap thrown.Found (c .before .before .before .throw .given .1))), (c .before .before .before .before .before .before .before .before .before .before .before .before .before .before .before .before .before .before .before .before .before .before .loop .inv .0) .catcher (code-room (c .before .before .before .before .before .before .before .before .before .before .before .before .before .before .before .before .before .before .before .before .before .before .loop .cells) (c .before .before .before .before .before .before .before .before .before .before .before .before .before .before .before .before .before .before .before .before .before .before .loop .regs .p) (told saysThrown (c .before .before .before .before .before .before .before .before .can-throw .ensures) (c .before .before .before .before .before .before .thrown .given .1 ∙ ap thrown.Found (c .before .before .before .throw .given .1)))))
 
 sub-regs-5 : tie.Need-sub-regs-5 Inv-loop μ-loop
-sub-regs-5 c = omega (arith, code-room (c .before .before .before .before .before .before .before .before .before .before .before .before .before .before .before .before .before .before .before .loop .cells) (c .before .before .before .before .before .before .before .before .before .before .before .before .before .before .before .before .before .before .before .loop .regs .p) (told saysThrown (c .before .before .before .before .before .before .before .before .can-throw .ensures) (c .before .before .before .before .before .before .thrown .given .1 ∙ ap thrown.Found (c .before .before .before .throw .given .1))), (c .before .before .before .before .before .before .before .before .before .before .before .before .before .before .before .before .before .before .before .loop .inv .0) .catcher (code-room (c .before .before .before .before .before .before .before .before .before .before .before .before .before .before .before .before .before .before .before .loop .cells) (c .before .before .before .before .before .before .before .before .before .before .before .before .before .before .before .before .before .before .before .loop .regs .p) (told saysThrown (c .before .before .before .before .before .before .before .before .can-throw .ensures) (c .before .before .before .before .before .before .thrown .given .1 ∙ ap thrown.Found (c .before .before .before .throw .given .1)))))
+sub-regs-5 c = omega (arith, code-room (c .before .before .before .before .before .before .before .before .before .before .before .before .before .before .before .before .before .before .before .before .before .before .loop .cells) (c .before .before .before .before .before .before .before .before .before .before .before .before .before .before .before .before .before .before .before .before .before .before .loop .regs .p) (told saysThrown (c .before .before .before .before .before .before .before .before .can-throw .ensures) (c .before .before .before .before .before .before .thrown .given .1 ∙ ap thrown.Found (c .before .before .before .throw .given .1))), (c .before .before .before .before .before .before .before .before .before .before .before .before .before .before .before .before .before .before .before .before .before .before .loop .inv .0) .catcher (code-room (c .before .before .before .before .before .before .before .before .before .before .before .before .before .before .before .before .before .before .before .before .before .before .loop .cells) (c .before .before .before .before .before .before .before .before .before .before .before .before .before .before .before .before .before .before .before .before .before .before .loop .regs .p) (told saysThrown (c .before .before .before .before .before .before .before .before .can-throw .ensures) (c .before .before .before .before .before .before .thrown .given .1 ∙ ap thrown.Found (c .before .before .before .throw .given .1)))))
 
 price-requires-7 : tie.Need-price-requires-7 Inv-loop μ-loop
 price-requires-7 c κs = search needs
 
 counted-requires-8 : tie.Need-counted-requires-8 Inv-loop μ-loop
-counted-requires-8 c κs = search needs
+counted-requires-8 c κs = ((found (c .before .before .before .before .before .before .before .before .before .before .before .before .before .before)) .less, ((omega (arith, (c .before .before .before .before .before .before .before .before .before .before .before .before .before .before .before .before .before .before .before .before .before .before .before .before .loop .inv .0) .priced, (c .before .before .before .before .before .before .before .before .before .before .before .before .before .before .before .before .before .before .before .before .before .before .before .before .loop .inv .0) .limit, (c .before .before .before .before .before .before .before .before .before .before .before .before .before .before .before .before .before .before .before .before .before .before .before .before .loop .inv .0) .left-within, (found (c .before .before .before .before .before .before .before .before .before .before .before .before .before .before)) .less)), omega arith))
 
-loop-less-15 : tie.Need-loop-less-15 Inv-loop μ-loop
-loop-less-15 c = omega (arith, c .counted8 .ensures .1)
+loop-less-16 : tie.Need-loop-less-16 Inv-loop μ-loop
+loop-less-16 c = omega (arith, c .counted8 .ensures .1)
 
-loop-again-15 : tie.Need-loop-again-15 Inv-loop μ-loop
-loop-again-15 c = (goes (found (c .before .before .before .before .before .before .before .before .before .before .before .before .before .before .before)) (throw-acts (found (c .before .before .before .before .before .before .before .before .before .before .before .before .before .before .before)) (c .before .before .before .before .before .before .before .before .before .before .before .before .before .match3 .keys6)) (told saysThrown (c .before .before .before .before .before .before .before .before .before .before .before .can-throw .ensures) (c .before .before .before .before .before .before .before .before .before .thrown .given .1 ∙ ap thrown.Found (c .before .before .before .before .before .before .throw .given .1))) refl refl (c .before .price7 .ensures .0) (c .counted8 .ensures .0), c .before .before .before .before .before .before .before .before .before .before .before .before .before .before .before .before .before .before .before .before .before .before .loop .inv .1)
+loop-again-16 : tie.Need-loop-again-16 Inv-loop μ-loop
+loop-again-16 c = (goes (found (c .before .before .before .before .before .before .before .before .before .before .before .before .before .before .before)) (throw-acts (found (c .before .before .before .before .before .before .before .before .before .before .before .before .before .before .before)) (c .before .before .before .before .before .before .before .before .before .before .before .before .before .match3 .keys6)) (told saysThrown (c .before .before .before .before .before .before .before .before .before .before .before .can-throw .ensures) (c .before .before .before .before .before .before .before .before .before .thrown .given .1 ∙ ap thrown.Found (c .before .before .before .before .before .before .throw .given .1))) refl refl (c .before .price7 .ensures .0) (c .counted8 .ensures .0), c .before .before .before .before .before .before .before .before .before .before .before .before .before .before .before .before .before .before .before .before .before .before .before .before .before .loop .inv .1)
 
 reach-requires : tie.Need-reach-requires Inv-loop μ-loop
-reach-requires c κs = search needs
+reach-requires c κs = (omega arith, ((c .before .before .before .before .before .before .before .before .before .before .before .before .before .loop .inv .0) .p-within, c .before .before .before .before .before .before .before .before .before .before .before .before .before .before .before .before .before .before .before .before .pre .1 .shared-within))
 
 enum-known-reached : tie.Need-enum-known-reached Inv-loop μ-loop
 enum-known-reached c = search needs
@@ -460,41 +486,68 @@ enum-told-13 c = search needs
 by-reach-requires : tie.Need-by-reach-requires Inv-loop μ-loop
 by-reach-requires c κs = search needs
 
-loop-less-16 : tie.Need-loop-less-16 Inv-loop μ-loop
-loop-less-16 c = halted-less (c .before .before .before .before .before .before .before .before .before .before .before .before .before .before .loop .regs) (c .by-reach .ensures) (ap saysReached (c .before .enum-told13 .given .1)) ((found (c .before .before .before .before .before .before .before)) .less)
+loop-less-17 : tie.Need-loop-less-17 Inv-loop μ-loop
+loop-less-17 c = halted-less (c .before .before .before .before .before .before .before .before .before .before .before .before .before .before .before .before .before .loop .regs) (c .by-reach .ensures) (ap saysReached (c .before .enum-told13 .given .1)) ((found (c .before .before .before .before .before .before .before)) .less)
 
-loop-again-16 : tie.Need-loop-again-16 Inv-loop μ-loop
-loop-again-16 c = (ends (found (c .before .before .before .before .before .before .before)) (fetch-acts (found (c .before .before .before .before .before .before .before)) (c .before .before .before .before .before .match3 .keys7)) (told saysReached (c .before .before .before .reach .ensures) (c .before .enum-told13 .given .1)) (c .before .before .before .reach .ensures) (c .by-reach .ensures), c .before .before .before .before .before .before .before .before .before .before .before .before .before .before .loop .inv .1)
+loop-again-17 : tie.Need-loop-again-17 Inv-loop μ-loop
+loop-again-17 c = (ends (found (c .before .before .before .before .before .before .before)) (fetch-acts (found (c .before .before .before .before .before .before .before)) (c .before .before .before .before .before .match3 .keys7)) (told saysReached (c .before .before .before .reach .ensures .0) (c .before .enum-told13 .given .1)) (c .before .before .before .reach .ensures .0) (c .by-reach .ensures), c .before .before .before .before .before .before .before .before .before .before .before .before .before .before .before .before .before .loop .inv .1)
 
 enum-known-spot : tie.Need-enum-known-spot Inv-loop μ-loop
 enum-known-spot c = search needs
 
 read-number-requires : tie.Need-read-number-requires Inv-loop μ-loop
-read-number-requires c κs = omega (arith, memory-room (widthOf (c .before .before .before .before .before .before .before .before .before .before .before .before .fetched .given .0 .0)) (c .before .before .before .before .before .before .before .before .before .before .before .before .before .before .before .before .before .before .loop .cells) (told saysReached (c .before .before .before .before .before .before .before .reach .ensures) (c .before .before .before .before .before .reached .given .1 ∙ ap reached.At (c .before .before .spot .given .1))), (c .before .before .before .before .before .before .before .before .before .before .before .before .before .before .before .before .before .before .loop .inv .0) .long)
+read-number-requires c κs = omega (arith, memory-room (c .before .before .before .before .before .before .before .before .before .before .before .before .before .before .before .before .before .before .before .before .before .before .before .before .before .before .before .before .args .reach) (widthOf (c .before .before .before .before .before .before .before .before .before .before .before .before .fetched .given .0 .0)) (c .before .before .before .before .before .before .before .before .before .before .before .before .before .before .before .before .before .before .before .before .before .loop .cells) (told saysReached (c .before .before .before .before .before .before .before .reach .ensures .0) (c .before .before .before .before .before .reached .given .1 ∙ ap reached.At (c .before .before .spot .given .1))), (c .before .before .before .before .before .before .before .before .before .before .before .before .before .before .before .before .before .before .before .before .before .loop .inv .0) .long)
 
 sub-cells-3 : tie.Need-sub-cells-3 Inv-loop μ-loop
-sub-cells-3 c = omega (arith, memory-room (widthOf (c .before .before .before .before .before .before .before .before .before .before .before .before .before .fetched .given .0 .0)) (c .before .before .before .before .before .before .before .before .before .before .before .before .before .before .before .before .before .before .before .loop .cells) (told saysReached (c .before .before .before .before .before .before .before .before .reach .ensures) (c .before .before .before .before .before .before .reached .given .1 ∙ ap reached.At (c .before .before .before .spot .given .1))))
+sub-cells-3 c = omega (arith, memory-room (c .before .before .before .before .before .before .before .before .before .before .before .before .before .before .before .before .before .before .before .before .before .before .before .before .before .before .before .before .before .args .reach) (widthOf (c .before .before .before .before .before .before .before .before .before .before .before .before .before .fetched .given .0 .0)) (c .before .before .before .before .before .before .before .before .before .before .before .before .before .before .before .before .before .before .before .before .before .before .loop .cells) (told saysReached (c .before .before .before .before .before .before .before .before .reach .ensures .0) (c .before .before .before .before .before .before .reached .given .1 ∙ ap reached.At (c .before .before .before .spot .given .1))))
 
 mul-cells-6 : tie.Need-mul-cells-6 Inv-loop μ-loop
-mul-cells-6 c = omega (arith, memory-room (widthOf (c .before .before .before .before .before .before .before .before .before .before .before .before .before .fetched .given .0 .0)) (c .before .before .before .before .before .before .before .before .before .before .before .before .before .before .before .before .before .before .before .loop .cells) (told saysReached (c .before .before .before .before .before .before .before .before .reach .ensures) (c .before .before .before .before .before .before .reached .given .1 ∙ ap reached.At (c .before .before .before .spot .given .1))))
+mul-cells-6 c = omega (arith, memory-room (c .before .before .before .before .before .before .before .before .before .before .before .before .before .before .before .before .before .before .before .before .before .before .before .before .before .before .before .before .before .args .reach) (widthOf (c .before .before .before .before .before .before .before .before .before .before .before .before .before .fetched .given .0 .0)) (c .before .before .before .before .before .before .before .before .before .before .before .before .before .before .before .before .before .before .before .before .before .before .loop .cells) (told saysReached (c .before .before .before .before .before .before .before .before .reach .ensures .0) (c .before .before .before .before .before .before .reached .given .1 ∙ ap reached.At (c .before .before .before .spot .given .1))))
 
 array-write-cells-4 : tie.Need-array-write-cells-4 Inv-loop μ-loop
-array-write-cells-4 c = omega (arith, memory-room (widthOf (c .before .before .before .before .before .before .before .before .before .before .before .before .before .fetched .given .0 .0)) (c .before .before .before .before .before .before .before .before .before .before .before .before .before .before .before .before .before .before .before .loop .cells) (told saysReached (c .before .before .before .before .before .before .before .before .reach .ensures) (c .before .before .before .before .before .before .reached .given .1 ∙ ap reached.At (c .before .before .before .spot .given .1))))
+array-write-cells-4 c = omega (arith, memory-room (c .before .before .before .before .before .before .before .before .before .before .before .before .before .before .before .before .before .before .before .before .before .before .before .before .before .before .before .before .before .args .reach) (widthOf (c .before .before .before .before .before .before .before .before .before .before .before .before .before .fetched .given .0 .0)) (c .before .before .before .before .before .before .before .before .before .before .before .before .before .before .before .before .before .before .before .before .before .before .loop .cells) (told saysReached (c .before .before .before .before .before .before .before .before .reach .ensures .0) (c .before .before .before .before .before .before .reached .given .1 ∙ ap reached.At (c .before .before .before .spot .given .1))))
 
 price-requires-8 : tie.Need-price-requires-8 Inv-loop μ-loop
 price-requires-8 c κs = search needs
 
 counted-requires-9 : tie.Need-counted-requires-9 Inv-loop μ-loop
-counted-requires-9 c κs = search needs
+counted-requires-9 c κs = ((found (c .before .before .before .before .before .before .before .before .before .before .before .before .before .before)) .less, ((omega (arith, (c .before .before .before .before .before .before .before .before .before .before .before .before .before .before .before .before .before .before .before .before .before .before .before .before .loop .inv .0) .priced, (c .before .before .before .before .before .before .before .before .before .before .before .before .before .before .before .before .before .before .before .before .before .before .before .before .loop .inv .0) .limit, (c .before .before .before .before .before .before .before .before .before .before .before .before .before .before .before .before .before .before .before .before .before .before .before .before .loop .inv .0) .left-within, (found (c .before .before .before .before .before .before .before .before .before .before .before .before .before .before)) .less)), c .price8 .ensures .1))
 
-loop-less-17 : tie.Need-loop-less-17 Inv-loop μ-loop
-loop-less-17 c = omega (arith, c .counted9 .ensures .1)
+loop-less-18 : tie.Need-loop-less-18 Inv-loop μ-loop
+loop-less-18 c = omega (arith, c .counted9 .ensures .1)
 
-loop-again-17 : tie.Need-loop-again-17 Inv-loop μ-loop
-loop-again-17 c = (goes (found (c .before .before .before .before .before .before .before .before .before .before .before .before .before .before .before)) (fetch-acts (found (c .before .before .before .before .before .before .before .before .before .before .before .before .before .before .before)) (c .before .before .before .before .before .before .before .before .before .before .before .before .before .match3 .keys7)) (told saysReached (c .before .before .before .before .before .before .before .before .before .before .before .reach .ensures) (c .before .before .before .before .before .before .before .before .before .reached .given .1 ∙ ap reached.At (c .before .before .before .before .before .before .spot .given .1))) (ap (fetchedAs (found (c .before .before .before .before .before .before .before .before .before .before .before .before .before .before .before))) (sym (c .before .before .before .read-number .ensures))) refl (c .before .price8 .ensures .0) (c .counted9 .ensures .0), c .before .before .before .before .before .before .before .before .before .before .before .before .before .before .before .before .before .before .before .before .before .before .loop .inv .1)
+loop-again-18 : tie.Need-loop-again-18 Inv-loop μ-loop
+loop-again-18 c = (goes (found (c .before .before .before .before .before .before .before .before .before .before .before .before .before .before .before)) (fetch-acts (found (c .before .before .before .before .before .before .before .before .before .before .before .before .before .before .before)) (c .before .before .before .before .before .before .before .before .before .before .before .before .before .match3 .keys7)) (told saysReached (c .before .before .before .before .before .before .before .before .before .before .before .reach .ensures .0) (c .before .before .before .before .before .before .before .before .before .reached .given .1 ∙ ap reached.At (c .before .before .before .before .before .before .spot .given .1))) (ap (fetchedAs (found (c .before .before .before .before .before .before .before .before .before .before .before .before .before .before .before))) (sym (c .before .before .before .read-number .ensures))) refl (c .before .price8 .ensures .0) (c .counted9 .ensures .0), c .before .before .before .before .before .before .before .before .before .before .before .before .before .before .before .before .before .before .before .before .before .before .before .before .before .loop .inv .1)
 
 enum-known-spot-2 : tie.Need-enum-known-spot-2 Inv-loop μ-loop
 enum-known-spot-2 c = search needs
+
+read-number-requires-2 : tie.Need-read-number-requires-2 Inv-loop μ-loop
+read-number-requires-2 c κs = omega (arith, memory-room (c .before .before .before .before .before .before .before .before .before .before .before .before .before .before .before .before .before .before .before .before .before .before .before .before .before .before .before .before .args .reach) (widthOf (c .before .before .before .before .before .before .before .before .before .before .before .before .fetched .given .0 .0)) (c .before .before .before .before .before .before .before .before .before .before .before .before .before .before .before .before .before .before .before .before .before .loop .cells) (told saysReached (c .before .before .before .before .before .before .before .reach .ensures .0) (c .before .before .before .before .before .reached .given .1 ∙ ap reached.At (c .before .before .spot2 .given .1))), (c .before .before .before .before .before .before .before .before .before .before .before .before .before .before .before .before .before .before .before .before .before .loop .inv .0) .long)
+
+sub-cells-4 : tie.Need-sub-cells-4 Inv-loop μ-loop
+sub-cells-4 c = omega (arith, memory-room (c .before .before .before .before .before .before .before .before .before .before .before .before .before .before .before .before .before .before .before .before .before .before .before .before .before .before .before .before .before .args .reach) (widthOf (c .before .before .before .before .before .before .before .before .before .before .before .before .before .fetched .given .0 .0)) (c .before .before .before .before .before .before .before .before .before .before .before .before .before .before .before .before .before .before .before .before .before .before .loop .cells) (told saysReached (c .before .before .before .before .before .before .before .before .reach .ensures .0) (c .before .before .before .before .before .before .reached .given .1 ∙ ap reached.At (c .before .before .before .spot2 .given .1))))
+
+mul-cells-7 : tie.Need-mul-cells-7 Inv-loop μ-loop
+mul-cells-7 c = omega (arith, memory-room (c .before .before .before .before .before .before .before .before .before .before .before .before .before .before .before .before .before .before .before .before .before .before .before .before .before .before .before .before .before .args .reach) (widthOf (c .before .before .before .before .before .before .before .before .before .before .before .before .before .fetched .given .0 .0)) (c .before .before .before .before .before .before .before .before .before .before .before .before .before .before .before .before .before .before .before .before .before .before .loop .cells) (told saysReached (c .before .before .before .before .before .before .before .before .reach .ensures .0) (c .before .before .before .before .before .before .reached .given .1 ∙ ap reached.At (c .before .before .before .spot2 .given .1))))
+
+array-write-cells-5 : tie.Need-array-write-cells-5 Inv-loop μ-loop
+array-write-cells-5 c = omega (arith, memory-room (c .before .before .before .before .before .before .before .before .before .before .before .before .before .before .before .before .before .before .before .before .before .before .before .before .before .before .before .before .before .args .reach) (widthOf (c .before .before .before .before .before .before .before .before .before .before .before .before .before .fetched .given .0 .0)) (c .before .before .before .before .before .before .before .before .before .before .before .before .before .before .before .before .before .before .before .before .before .before .loop .cells) (told saysReached (c .before .before .before .before .before .before .before .before .reach .ensures .0) (c .before .before .before .before .before .before .reached .given .1 ∙ ap reached.At (c .before .before .before .spot2 .given .1))))
+
+price-requires-9 : tie.Need-price-requires-9 Inv-loop μ-loop
+price-requires-9 c κs = search needs
+
+counted-requires-10 : tie.Need-counted-requires-10 Inv-loop μ-loop
+counted-requires-10 c κs = ((found (c .before .before .before .before .before .before .before .before .before .before .before .before .before .before)) .less, ((omega (arith, (c .before .before .before .before .before .before .before .before .before .before .before .before .before .before .before .before .before .before .before .before .before .before .before .before .loop .inv .0) .priced, (c .before .before .before .before .before .before .before .before .before .before .before .before .before .before .before .before .before .before .before .before .before .before .before .before .loop .inv .0) .limit, (c .before .before .before .before .before .before .before .before .before .before .before .before .before .before .before .before .before .before .before .before .before .before .before .before .loop .inv .0) .left-within, (found (c .before .before .before .before .before .before .before .before .before .before .before .before .before .before)) .less)), c .price9 .ensures .1))
+
+loop-less-19 : tie.Need-loop-less-19 Inv-loop μ-loop
+loop-less-19 c = omega (arith, c .counted10 .ensures .1)
+
+loop-again-19 : tie.Need-loop-again-19 Inv-loop μ-loop
+loop-again-19 c = (goes (found (c .before .before .before .before .before .before .before .before .before .before .before .before .before .before .before)) (fetch-acts (found (c .before .before .before .before .before .before .before .before .before .before .before .before .before .before .before)) (c .before .before .before .before .before .before .before .before .before .before .before .before .before .match3 .keys7)) (told saysReached (c .before .before .before .before .before .before .before .before .before .before .before .reach .ensures .0) (c .before .before .before .before .before .before .before .before .before .reached .given .1 ∙ ap reached.At (c .before .before .before .before .before .before .spot2 .given .1))) (ap (fetchedAs (found (c .before .before .before .before .before .before .before .before .before .before .before .before .before .before .before))) (sym (c .before .before .before .read-number2 .ensures))) refl (c .before .price9 .ensures .0) (c .counted10 .ensures .0), c .before .before .before .before .before .before .before .before .before .before .before .before .before .before .before .before .before .before .before .before .before .before .before .before .before .loop .inv .1)
+
+enum-known-spot-3 : tie.Need-enum-known-spot-3 Inv-loop μ-loop
+enum-known-spot-3 c = search needs
 
 mul-frame-3 : tie.Need-mul-frame-3 Inv-loop μ-loop
 mul-frame-3 c = search needs
@@ -503,31 +556,31 @@ array-copy-out-frame-3 : tie.Need-array-copy-out-frame-3 Inv-loop μ-loop
 array-copy-out-frame-3 c = search needs
 
 local-requires : tie.Need-local-requires Inv-loop μ-loop
-local-requires c κs = omega (arith, local-room (widthOf (c .before .before .before .before .before .before .before .before .before .before .before .before .fetched .given .0 .0)) (c .before .before .before .before .before .before .before .before .before .before .before .before .before .before .before .before .before .before .loop .cells) (told saysReached (c .before .before .before .before .before .before .before .reach .ensures) (c .before .before .before .before .before .reached .given .1 ∙ ap reached.At (c .before .before .spot2 .given .1))))
+local-requires c κs = omega (arith, local-room (c .before .before .before .before .before .before .before .before .before .before .before .before .before .before .before .before .before .before .before .before .before .before .before .before .before .before .before .before .args .reach) (widthOf (c .before .before .before .before .before .before .before .before .before .before .before .before .fetched .given .0 .0)) (c .before .before .before .before .before .before .before .before .before .before .before .before .before .before .before .before .before .before .before .before .before .loop .cells) (told saysReached (c .before .before .before .before .before .before .before .reach .ensures .0) (c .before .before .before .before .before .reached .given .1 ∙ ap reached.At (c .before .before .spot3 .given .1))))
 
-sub-cells-4 : tie.Need-sub-cells-4 Inv-loop μ-loop
-sub-cells-4 c = omega (arith, local-room (widthOf (c .before .before .before .before .before .before .before .before .before .before .before .before .before .fetched .given .0 .0)) (c .before .before .before .before .before .before .before .before .before .before .before .before .before .before .before .before .before .before .before .loop .cells) (told saysReached (c .before .before .before .before .before .before .before .before .reach .ensures) (c .before .before .before .before .before .before .reached .given .1 ∙ ap reached.At (c .before .before .before .spot2 .given .1))))
+sub-cells-5 : tie.Need-sub-cells-5 Inv-loop μ-loop
+sub-cells-5 c = omega (arith, local-room (c .before .before .before .before .before .before .before .before .before .before .before .before .before .before .before .before .before .before .before .before .before .before .before .before .before .before .before .before .before .args .reach) (widthOf (c .before .before .before .before .before .before .before .before .before .before .before .before .before .fetched .given .0 .0)) (c .before .before .before .before .before .before .before .before .before .before .before .before .before .before .before .before .before .before .before .before .before .before .loop .cells) (told saysReached (c .before .before .before .before .before .before .before .before .reach .ensures .0) (c .before .before .before .before .before .before .reached .given .1 ∙ ap reached.At (c .before .before .before .spot3 .given .1))), (c .before .before .before .before .before .before .before .before .before .before .before .before .before .before .before .before .before .before .before .before .before .before .loop .inv .0) .s-within)
 
-mul-cells-7 : tie.Need-mul-cells-7 Inv-loop μ-loop
-mul-cells-7 c = omega (arith, local-room (widthOf (c .before .before .before .before .before .before .before .before .before .before .before .before .before .fetched .given .0 .0)) (c .before .before .before .before .before .before .before .before .before .before .before .before .before .before .before .before .before .before .before .loop .cells) (told saysReached (c .before .before .before .before .before .before .before .before .reach .ensures) (c .before .before .before .before .before .before .reached .given .1 ∙ ap reached.At (c .before .before .before .spot2 .given .1))))
+mul-cells-8 : tie.Need-mul-cells-8 Inv-loop μ-loop
+mul-cells-8 c = omega (arith, local-room (c .before .before .before .before .before .before .before .before .before .before .before .before .before .before .before .before .before .before .before .before .before .before .before .before .before .before .before .before .before .args .reach) (widthOf (c .before .before .before .before .before .before .before .before .before .before .before .before .before .fetched .given .0 .0)) (c .before .before .before .before .before .before .before .before .before .before .before .before .before .before .before .before .before .before .before .before .before .before .loop .cells) (told saysReached (c .before .before .before .before .before .before .before .before .reach .ensures .0) (c .before .before .before .before .before .before .reached .given .1 ∙ ap reached.At (c .before .before .before .spot3 .given .1))), (c .before .before .before .before .before .before .before .before .before .before .before .before .before .before .before .before .before .before .before .before .before .before .loop .inv .0) .s-within)
 
-array-write-cells-5 : tie.Need-array-write-cells-5 Inv-loop μ-loop
-array-write-cells-5 c = omega (arith, local-room (widthOf (c .before .before .before .before .before .before .before .before .before .before .before .before .before .fetched .given .0 .0)) (c .before .before .before .before .before .before .before .before .before .before .before .before .before .before .before .before .before .before .before .loop .cells) (told saysReached (c .before .before .before .before .before .before .before .before .reach .ensures) (c .before .before .before .before .before .before .reached .given .1 ∙ ap reached.At (c .before .before .before .spot2 .given .1))))
+array-write-cells-6 : tie.Need-array-write-cells-6 Inv-loop μ-loop
+array-write-cells-6 c = omega (arith, local-room (c .before .before .before .before .before .before .before .before .before .before .before .before .before .before .before .before .before .before .before .before .before .before .before .before .before .before .before .before .before .args .reach) (widthOf (c .before .before .before .before .before .before .before .before .before .before .before .before .before .fetched .given .0 .0)) (c .before .before .before .before .before .before .before .before .before .before .before .before .before .before .before .before .before .before .before .before .before .before .loop .cells) (told saysReached (c .before .before .before .before .before .before .before .before .reach .ensures .0) (c .before .before .before .before .before .before .reached .given .1 ∙ ap reached.At (c .before .before .before .spot3 .given .1))), (c .before .before .before .before .before .before .before .before .before .before .before .before .before .before .before .before .before .before .before .before .before .before .loop .inv .0) .s-within)
 
-price-requires-9 : tie.Need-price-requires-9 Inv-loop μ-loop
-price-requires-9 c κs = search needs
+price-requires-10 : tie.Need-price-requires-10 Inv-loop μ-loop
+price-requires-10 c κs = search needs
 
-counted-requires-10 : tie.Need-counted-requires-10 Inv-loop μ-loop
-counted-requires-10 c κs = search needs
+counted-requires-11 : tie.Need-counted-requires-11 Inv-loop μ-loop
+counted-requires-11 c κs = ((found (c .before .before .before .before .before .before .before .before .before .before .before .before .before .before)) .less, ((omega (arith, (c .before .before .before .before .before .before .before .before .before .before .before .before .before .before .before .before .before .before .before .before .before .before .before .before .loop .inv .0) .priced, (c .before .before .before .before .before .before .before .before .before .before .before .before .before .before .before .before .before .before .before .before .before .before .before .before .loop .inv .0) .limit, (c .before .before .before .before .before .before .before .before .before .before .before .before .before .before .before .before .before .before .before .before .before .before .before .before .loop .inv .0) .left-within, (found (c .before .before .before .before .before .before .before .before .before .before .before .before .before .before)) .less)), c .price10 .ensures .1))
 
-loop-less-18 : tie.Need-loop-less-18 Inv-loop μ-loop
-loop-less-18 c = omega (arith, c .counted10 .ensures .1)
+loop-less-20 : tie.Need-loop-less-20 Inv-loop μ-loop
+loop-less-20 c = omega (arith, c .counted11 .ensures .1)
 
-loop-again-18 : tie.Need-loop-again-18 Inv-loop μ-loop
-loop-again-18 c = (goes (found (c .before .before .before .before .before .before .before .before .before .before .before .before .before .before .before)) (fetch-acts (found (c .before .before .before .before .before .before .before .before .before .before .before .before .before .before .before)) (c .before .before .before .before .before .before .before .before .before .before .before .before .before .match3 .keys7)) (told saysReached (c .before .before .before .before .before .before .before .before .before .before .before .reach .ensures) (c .before .before .before .before .before .before .before .before .before .reached .given .1 ∙ ap reached.At (c .before .before .before .before .before .before .spot2 .given .1))) (ap (fetchedAs (found (c .before .before .before .before .before .before .before .before .before .before .before .before .before .before .before))) (sym (c .before .before .before .local .ensures))) refl (c .before .price9 .ensures .0) (c .counted10 .ensures .0), c .before .before .before .before .before .before .before .before .before .before .before .before .before .before .before .before .before .before .before .before .before .before .loop .inv .1)
+loop-again-20 : tie.Need-loop-again-20 Inv-loop μ-loop
+loop-again-20 c = (goes (found (c .before .before .before .before .before .before .before .before .before .before .before .before .before .before .before)) (fetch-acts (found (c .before .before .before .before .before .before .before .before .before .before .before .before .before .before .before)) (c .before .before .before .before .before .before .before .before .before .before .before .before .before .match3 .keys7)) (told saysReached (c .before .before .before .before .before .before .before .before .before .before .before .reach .ensures .0) (c .before .before .before .before .before .before .before .before .before .reached .given .1 ∙ ap reached.At (c .before .before .before .before .before .before .spot3 .given .1))) (ap (fetchedAs (found (c .before .before .before .before .before .before .before .before .before .before .before .before .before .before .before))) (sym (c .before .before .before .local .ensures))) refl (c .before .price10 .ensures .0) (c .counted11 .ensures .0), c .before .before .before .before .before .before .before .before .before .before .before .before .before .before .before .before .before .before .before .before .before .before .before .before .before .loop .inv .1)
 
-enum-known-spot-3 : tie.Need-enum-known-spot-3 Inv-loop μ-loop
-enum-known-spot-3 c = search needs
+enum-known-spot-4 : tie.Need-enum-known-spot-4 Inv-loop μ-loop
+enum-known-spot-4 c = search needs
 
 mul-level-3 : tie.Need-mul-level-3 Inv-loop μ-loop
 mul-level-3 c = search needs
@@ -536,31 +589,31 @@ array-copy-out-level-3 : tie.Need-array-copy-out-level-3 Inv-loop μ-loop
 array-copy-out-level-3 c = search needs
 
 cell-requires : tie.Need-cell-requires Inv-loop μ-loop
-cell-requires c κs = omega (arith, cell-room (widthOf (c .before .before .before .before .before .before .before .before .before .before .before .before .fetched .given .0 .0)) (c .before .before .before .before .before .before .before .before .before .before .before .before .before .before .before .before .before .before .loop .cells) (told saysReached (c .before .before .before .before .before .before .before .reach .ensures) (c .before .before .before .before .before .reached .given .1 ∙ ap reached.At (c .before .before .spot3 .given .1))))
+cell-requires c κs = omega (arith, cell-room (c .before .before .before .before .before .before .before .before .before .before .before .before .before .before .before .before .before .before .before .before .before .before .before .before .before .before .before .before .args .reach) (widthOf (c .before .before .before .before .before .before .before .before .before .before .before .before .fetched .given .0 .0)) (c .before .before .before .before .before .before .before .before .before .before .before .before .before .before .before .before .before .before .before .before .before .loop .cells) (told saysReached (c .before .before .before .before .before .before .before .reach .ensures .0) (c .before .before .before .before .before .reached .given .1 ∙ ap reached.At (c .before .before .spot4 .given .1))))
 
-sub-cells-5 : tie.Need-sub-cells-5 Inv-loop μ-loop
-sub-cells-5 c = omega (arith, cell-room (widthOf (c .before .before .before .before .before .before .before .before .before .before .before .before .before .fetched .given .0 .0)) (c .before .before .before .before .before .before .before .before .before .before .before .before .before .before .before .before .before .before .before .loop .cells) (told saysReached (c .before .before .before .before .before .before .before .before .reach .ensures) (c .before .before .before .before .before .before .reached .given .1 ∙ ap reached.At (c .before .before .before .spot3 .given .1))))
+sub-cells-6 : tie.Need-sub-cells-6 Inv-loop μ-loop
+sub-cells-6 c = omega (arith, cell-room (c .before .before .before .before .before .before .before .before .before .before .before .before .before .before .before .before .before .before .before .before .before .before .before .before .before .before .before .before .before .args .reach) (widthOf (c .before .before .before .before .before .before .before .before .before .before .before .before .before .fetched .given .0 .0)) (c .before .before .before .before .before .before .before .before .before .before .before .before .before .before .before .before .before .before .before .before .before .before .loop .cells) (told saysReached (c .before .before .before .before .before .before .before .before .reach .ensures .0) (c .before .before .before .before .before .before .reached .given .1 ∙ ap reached.At (c .before .before .before .spot4 .given .1))), (c .before .before .before .before .before .before .before .before .before .before .before .before .before .before .before .before .before .before .before .before .before .before .loop .inv .0) .e-within)
 
-mul-cells-8 : tie.Need-mul-cells-8 Inv-loop μ-loop
-mul-cells-8 c = omega (arith, cell-room (widthOf (c .before .before .before .before .before .before .before .before .before .before .before .before .before .fetched .given .0 .0)) (c .before .before .before .before .before .before .before .before .before .before .before .before .before .before .before .before .before .before .before .loop .cells) (told saysReached (c .before .before .before .before .before .before .before .before .reach .ensures) (c .before .before .before .before .before .before .reached .given .1 ∙ ap reached.At (c .before .before .before .spot3 .given .1))))
+mul-cells-9 : tie.Need-mul-cells-9 Inv-loop μ-loop
+mul-cells-9 c = omega (arith, cell-room (c .before .before .before .before .before .before .before .before .before .before .before .before .before .before .before .before .before .before .before .before .before .before .before .before .before .before .before .before .before .args .reach) (widthOf (c .before .before .before .before .before .before .before .before .before .before .before .before .before .fetched .given .0 .0)) (c .before .before .before .before .before .before .before .before .before .before .before .before .before .before .before .before .before .before .before .before .before .before .loop .cells) (told saysReached (c .before .before .before .before .before .before .before .before .reach .ensures .0) (c .before .before .before .before .before .before .reached .given .1 ∙ ap reached.At (c .before .before .before .spot4 .given .1))), (c .before .before .before .before .before .before .before .before .before .before .before .before .before .before .before .before .before .before .before .before .before .before .loop .inv .0) .e-within)
 
-array-write-cells-6 : tie.Need-array-write-cells-6 Inv-loop μ-loop
-array-write-cells-6 c = omega (arith, cell-room (widthOf (c .before .before .before .before .before .before .before .before .before .before .before .before .before .fetched .given .0 .0)) (c .before .before .before .before .before .before .before .before .before .before .before .before .before .before .before .before .before .before .before .loop .cells) (told saysReached (c .before .before .before .before .before .before .before .before .reach .ensures) (c .before .before .before .before .before .before .reached .given .1 ∙ ap reached.At (c .before .before .before .spot3 .given .1))))
+array-write-cells-7 : tie.Need-array-write-cells-7 Inv-loop μ-loop
+array-write-cells-7 c = omega (arith, cell-room (c .before .before .before .before .before .before .before .before .before .before .before .before .before .before .before .before .before .before .before .before .before .before .before .before .before .before .before .before .before .args .reach) (widthOf (c .before .before .before .before .before .before .before .before .before .before .before .before .before .fetched .given .0 .0)) (c .before .before .before .before .before .before .before .before .before .before .before .before .before .before .before .before .before .before .before .before .before .before .loop .cells) (told saysReached (c .before .before .before .before .before .before .before .before .reach .ensures .0) (c .before .before .before .before .before .before .reached .given .1 ∙ ap reached.At (c .before .before .before .spot4 .given .1))), (c .before .before .before .before .before .before .before .before .before .before .before .before .before .before .before .before .before .before .before .before .before .before .loop .inv .0) .e-within)
 
-price-requires-10 : tie.Need-price-requires-10 Inv-loop μ-loop
-price-requires-10 c κs = search needs
+price-requires-11 : tie.Need-price-requires-11 Inv-loop μ-loop
+price-requires-11 c κs = search needs
 
-counted-requires-11 : tie.Need-counted-requires-11 Inv-loop μ-loop
-counted-requires-11 c κs = search needs
+counted-requires-12 : tie.Need-counted-requires-12 Inv-loop μ-loop
+counted-requires-12 c κs = ((found (c .before .before .before .before .before .before .before .before .before .before .before .before .before .before)) .less, ((omega (arith, (c .before .before .before .before .before .before .before .before .before .before .before .before .before .before .before .before .before .before .before .before .before .before .before .before .loop .inv .0) .priced, (c .before .before .before .before .before .before .before .before .before .before .before .before .before .before .before .before .before .before .before .before .before .before .before .before .loop .inv .0) .limit, (c .before .before .before .before .before .before .before .before .before .before .before .before .before .before .before .before .before .before .before .before .before .before .before .before .loop .inv .0) .left-within, (found (c .before .before .before .before .before .before .before .before .before .before .before .before .before .before)) .less)), c .price11 .ensures .1))
 
-loop-less-19 : tie.Need-loop-less-19 Inv-loop μ-loop
-loop-less-19 c = omega (arith, c .counted11 .ensures .1)
+loop-less-21 : tie.Need-loop-less-21 Inv-loop μ-loop
+loop-less-21 c = omega (arith, c .counted12 .ensures .1)
 
-loop-again-19 : tie.Need-loop-again-19 Inv-loop μ-loop
-loop-again-19 c = (goes (found (c .before .before .before .before .before .before .before .before .before .before .before .before .before .before .before)) (fetch-acts (found (c .before .before .before .before .before .before .before .before .before .before .before .before .before .before .before)) (c .before .before .before .before .before .before .before .before .before .before .before .before .before .match3 .keys7)) (told saysReached (c .before .before .before .before .before .before .before .before .before .before .before .reach .ensures) (c .before .before .before .before .before .before .before .before .before .reached .given .1 ∙ ap reached.At (c .before .before .before .before .before .before .spot3 .given .1))) (ap (fetchedAs (found (c .before .before .before .before .before .before .before .before .before .before .before .before .before .before .before))) (sym (c .before .before .before .cell .ensures))) refl (c .before .price10 .ensures .0) (c .counted11 .ensures .0), c .before .before .before .before .before .before .before .before .before .before .before .before .before .before .before .before .before .before .before .before .before .before .loop .inv .1)
+loop-again-21 : tie.Need-loop-again-21 Inv-loop μ-loop
+loop-again-21 c = (goes (found (c .before .before .before .before .before .before .before .before .before .before .before .before .before .before .before)) (fetch-acts (found (c .before .before .before .before .before .before .before .before .before .before .before .before .before .before .before)) (c .before .before .before .before .before .before .before .before .before .before .before .before .before .match3 .keys7)) (told saysReached (c .before .before .before .before .before .before .before .before .before .before .before .reach .ensures .0) (c .before .before .before .before .before .before .before .before .before .reached .given .1 ∙ ap reached.At (c .before .before .before .before .before .before .spot4 .given .1))) (ap (fetchedAs (found (c .before .before .before .before .before .before .before .before .before .before .before .before .before .before .before))) (sym (c .before .before .before .cell .ensures))) refl (c .before .price11 .ensures .0) (c .counted12 .ensures .0), c .before .before .before .before .before .before .before .before .before .before .before .before .before .before .before .before .before .before .before .before .before .before .before .before .before .loop .inv .1)
 
 reach-requires-2 : tie.Need-reach-requires-2 Inv-loop μ-loop
-reach-requires-2 c κs = search needs
+reach-requires-2 c κs = (omega arith, ((c .before .before .before .before .before .before .before .before .before .before .before .before .before .loop .inv .0) .p-within, c .before .before .before .before .before .before .before .before .before .before .before .before .before .before .before .before .before .before .before .before .pre .1 .shared-within))
 
 enum-known-reached-2 : tie.Need-enum-known-reached-2 Inv-loop μ-loop
 enum-known-reached-2 c = search needs
@@ -571,44 +624,74 @@ enum-told-14 c = search needs
 by-reach-requires-2 : tie.Need-by-reach-requires-2 Inv-loop μ-loop
 by-reach-requires-2 c κs = search needs
 
-loop-less-20 : tie.Need-loop-less-20 Inv-loop μ-loop
-loop-less-20 c = halted-less (c .before .before .before .before .before .before .before .before .before .before .before .before .before .before .loop .regs) (c .by-reach2 .ensures) (ap saysReached (c .before .enum-told14 .given .1)) ((found (c .before .before .before .before .before .before .before)) .less)
+loop-less-22 : tie.Need-loop-less-22 Inv-loop μ-loop
+loop-less-22 c = halted-less (c .before .before .before .before .before .before .before .before .before .before .before .before .before .before .before .before .before .loop .regs) (c .by-reach2 .ensures) (ap saysReached (c .before .enum-told14 .given .1)) ((found (c .before .before .before .before .before .before .before)) .less)
 
-loop-again-20 : tie.Need-loop-again-20 Inv-loop μ-loop
-loop-again-20 c = (ends (found (c .before .before .before .before .before .before .before)) (store-acts (found (c .before .before .before .before .before .before .before)) (c .before .before .before .before .before .match3 .keys8)) (told saysReached (c .before .before .before .reach2 .ensures) (c .before .enum-told14 .given .1)) (c .before .before .before .reach2 .ensures) (c .by-reach2 .ensures), c .before .before .before .before .before .before .before .before .before .before .before .before .before .before .loop .inv .1)
-
-enum-known-spot-4 : tie.Need-enum-known-spot-4 Inv-loop μ-loop
-enum-known-spot-4 c = search needs
-
-sub-write-number : tie.Need-sub-write-number Inv-loop μ-loop
-sub-write-number c = omega (arith, memory-room (widthOf (c .before .before .before .before .before .before .before .before .before .before .before .before .fetched .given .0 .0)) (c .before .before .before .before .before .before .before .before .before .before .before .before .before .before .before .before .before .before .loop .cells) (told saysReached (c .before .before .before .before .before .before .before .reach2 .ensures) (c .before .before .before .before .before .reached2 .given .1 ∙ ap reached.At (c .before .before .spot4 .given .1))))
-
-mul-write-number : tie.Need-mul-write-number Inv-loop μ-loop
-mul-write-number c = omega (arith, memory-room (widthOf (c .before .before .before .before .before .before .before .before .before .before .before .before .fetched .given .0 .0)) (c .before .before .before .before .before .before .before .before .before .before .before .before .before .before .before .before .before .before .loop .cells) (told saysReached (c .before .before .before .before .before .before .before .reach2 .ensures) (c .before .before .before .before .before .reached2 .given .1 ∙ ap reached.At (c .before .before .spot4 .given .1))))
-
-array-read-write-number : tie.Need-array-read-write-number Inv-loop μ-loop
-array-read-write-number c = omega (arith, memory-room (widthOf (c .before .before .before .before .before .before .before .before .before .before .before .before .fetched .given .0 .0)) (c .before .before .before .before .before .before .before .before .before .before .before .before .before .before .before .before .before .before .loop .cells) (told saysReached (c .before .before .before .before .before .before .before .reach2 .ensures) (c .before .before .before .before .before .reached2 .given .1 ∙ ap reached.At (c .before .before .spot4 .given .1))))
-
-write-number-requires : tie.Need-write-number-requires Inv-loop μ-loop
-write-number-requires c κs = omega (arith, memory-room (widthOf (c .before .before .before .before .before .before .before .before .before .before .before .before .fetched .given .0 .0)) (c .before .before .before .before .before .before .before .before .before .before .before .before .before .before .before .before .before .before .loop .cells) (told saysReached (c .before .before .before .before .before .before .before .reach2 .ensures) (c .before .before .before .before .before .reached2 .given .1 ∙ ap reached.At (c .before .before .spot4 .given .1))), (c .before .before .before .before .before .before .before .before .before .before .before .before .before .before .before .before .before .before .loop .inv .0) .long)
-
-sub-regs-6 : tie.Need-sub-regs-6 Inv-loop μ-loop
-sub-regs-6 c = omega (arith, memory-room (widthOf (c .before .before .before .before .before .before .before .before .before .before .before .before .before .before .before .fetched .given .0 .0)) (c .before .before .before .before .before .before .before .before .before .before .before .before .before .before .before .before .before .before .before .before .before .loop .cells) (told saysReached (c .before .before .before .before .before .before .before .before .before .before .reach2 .ensures) (c .before .before .before .before .before .before .before .before .reached2 .given .1 ∙ ap reached.At (c .before .before .before .before .before .spot4 .given .1))))
-
-price-requires-11 : tie.Need-price-requires-11 Inv-loop μ-loop
-price-requires-11 c κs = search needs
-
-counted-requires-12 : tie.Need-counted-requires-12 Inv-loop μ-loop
-counted-requires-12 c κs = search needs
-
-loop-less-21 : tie.Need-loop-less-21 Inv-loop μ-loop
-loop-less-21 c = omega (arith, c .counted12 .ensures .1)
-
-loop-again-21 : tie.Need-loop-again-21 Inv-loop μ-loop
-loop-again-21 c = (goes (found (c .before .before .before .before .before .before .before .before .before .before .before .before .before .before .before .before .before)) (store-acts (found (c .before .before .before .before .before .before .before .before .before .before .before .before .before .before .before .before .before)) (c .before .before .before .before .before .before .before .before .before .before .before .before .before .before .before .match3 .keys8)) (told saysReached (c .before .before .before .before .before .before .before .before .before .before .before .before .before .reach2 .ensures) (c .before .before .before .before .before .before .before .before .before .before .before .reached2 .given .1 ∙ ap reached.At (c .before .before .before .before .before .before .before .before .spot4 .given .1))) (written-there (found (c .before .before .before .before .before .before .before .before .before .before .before .before .before .before .before .before .before)) (widthOf (c .before .before .before .before .before .before .before .before .before .before .before .before .before .before .before .before .before .before .fetched .given .0 .0)) (c .before .before .before .before .before .before .before .before .spot4 .given .0 .0) (c .before .before .before .before .before .write-number .ensures)) refl (c .before .price11 .ensures .0) (c .counted12 .ensures .0), c .before .before .before .before .before .before .before .before .before .before .before .before .before .before .before .before .before .before .before .before .before .before .before .before .loop .inv .1)
+loop-again-22 : tie.Need-loop-again-22 Inv-loop μ-loop
+loop-again-22 c = (ends (found (c .before .before .before .before .before .before .before)) (store-acts (found (c .before .before .before .before .before .before .before)) (c .before .before .before .before .before .match3 .keys8)) (told saysReached (c .before .before .before .reach2 .ensures .0) (c .before .enum-told14 .given .1)) (c .before .before .before .reach2 .ensures .0) (c .by-reach2 .ensures), c .before .before .before .before .before .before .before .before .before .before .before .before .before .before .before .before .before .loop .inv .1)
 
 enum-known-spot-5 : tie.Need-enum-known-spot-5 Inv-loop μ-loop
 enum-known-spot-5 c = search needs
+
+sub-write-number : tie.Need-sub-write-number Inv-loop μ-loop
+sub-write-number c = omega (arith, memory-room (c .before .before .before .before .before .before .before .before .before .before .before .before .before .before .before .before .before .before .before .before .before .before .before .before .before .before .before .before .args .reach) (widthOf (c .before .before .before .before .before .before .before .before .before .before .before .before .fetched .given .0 .0)) (c .before .before .before .before .before .before .before .before .before .before .before .before .before .before .before .before .before .before .before .before .before .loop .cells) (told saysReached (c .before .before .before .before .before .before .before .reach2 .ensures .0) (c .before .before .before .before .before .reached2 .given .1 ∙ ap reached.At (c .before .before .spot5 .given .1))))
+
+mul-write-number : tie.Need-mul-write-number Inv-loop μ-loop
+mul-write-number c = omega (arith, memory-room (c .before .before .before .before .before .before .before .before .before .before .before .before .before .before .before .before .before .before .before .before .before .before .before .before .before .before .before .before .args .reach) (widthOf (c .before .before .before .before .before .before .before .before .before .before .before .before .fetched .given .0 .0)) (c .before .before .before .before .before .before .before .before .before .before .before .before .before .before .before .before .before .before .before .before .before .loop .cells) (told saysReached (c .before .before .before .before .before .before .before .reach2 .ensures .0) (c .before .before .before .before .before .reached2 .given .1 ∙ ap reached.At (c .before .before .spot5 .given .1))))
+
+array-read-write-number : tie.Need-array-read-write-number Inv-loop μ-loop
+array-read-write-number c = omega (arith, memory-room (c .before .before .before .before .before .before .before .before .before .before .before .before .before .before .before .before .before .before .before .before .before .before .before .before .before .before .before .before .args .reach) (widthOf (c .before .before .before .before .before .before .before .before .before .before .before .before .fetched .given .0 .0)) (c .before .before .before .before .before .before .before .before .before .before .before .before .before .before .before .before .before .before .before .before .before .loop .cells) (told saysReached (c .before .before .before .before .before .before .before .reach2 .ensures .0) (c .before .before .before .before .before .reached2 .given .1 ∙ ap reached.At (c .before .before .spot5 .given .1))))
+
+write-number-requires : tie.Need-write-number-requires Inv-loop μ-loop
+write-number-requires c κs = omega (arith, memory-room (c .before .before .before .before .before .before .before .before .before .before .before .before .before .before .before .before .before .before .before .before .before .before .before .before .before .before .before .before .args .reach) (widthOf (c .before .before .before .before .before .before .before .before .before .before .before .before .fetched .given .0 .0)) (c .before .before .before .before .before .before .before .before .before .before .before .before .before .before .before .before .before .before .before .before .before .loop .cells) (told saysReached (c .before .before .before .before .before .before .before .reach2 .ensures .0) (c .before .before .before .before .before .reached2 .given .1 ∙ ap reached.At (c .before .before .spot5 .given .1))), (c .before .before .before .before .before .before .before .before .before .before .before .before .before .before .before .before .before .before .before .before .before .loop .inv .0) .long)
+
+sub-regs-6 : tie.Need-sub-regs-6 Inv-loop μ-loop
+sub-regs-6 c = omega (arith, memory-room (c .before .before .before .before .before .before .before .before .before .before .before .before .before .before .before .before .before .before .before .before .before .before .before .before .before .before .before .before .before .before .before .args .reach) (widthOf (c .before .before .before .before .before .before .before .before .before .before .before .before .before .before .before .fetched .given .0 .0)) (c .before .before .before .before .before .before .before .before .before .before .before .before .before .before .before .before .before .before .before .before .before .before .before .before .loop .cells) (told saysReached (c .before .before .before .before .before .before .before .before .before .before .reach2 .ensures .0) (c .before .before .before .before .before .before .before .before .reached2 .given .1 ∙ ap reached.At (c .before .before .before .before .before .spot5 .given .1))))
+
+price-requires-12 : tie.Need-price-requires-12 Inv-loop μ-loop
+price-requires-12 c κs = search needs
+
+counted-requires-13 : tie.Need-counted-requires-13 Inv-loop μ-loop
+counted-requires-13 c κs = ((found (c .before .before .before .before .before .before .before .before .before .before .before .before .before .before .before .before)) .less, ((omega (arith, (c .before .before .before .before .before .before .before .before .before .before .before .before .before .before .before .before .before .before .before .before .before .before .before .before .before .before .loop .inv .0) .priced, (c .before .before .before .before .before .before .before .before .before .before .before .before .before .before .before .before .before .before .before .before .before .before .before .before .before .before .loop .inv .0) .limit, (c .before .before .before .before .before .before .before .before .before .before .before .before .before .before .before .before .before .before .before .before .before .before .before .before .before .before .loop .inv .0) .left-within, (found (c .before .before .before .before .before .before .before .before .before .before .before .before .before .before .before .before)) .less)), c .price12 .ensures .1))
+
+loop-less-23 : tie.Need-loop-less-23 Inv-loop μ-loop
+loop-less-23 c = omega (arith, c .counted13 .ensures .1)
+
+loop-again-23 : tie.Need-loop-again-23 Inv-loop μ-loop
+loop-again-23 c = (goes (found (c .before .before .before .before .before .before .before .before .before .before .before .before .before .before .before .before .before)) (store-acts (found (c .before .before .before .before .before .before .before .before .before .before .before .before .before .before .before .before .before)) (c .before .before .before .before .before .before .before .before .before .before .before .before .before .before .before .match3 .keys8)) (told saysReached (c .before .before .before .before .before .before .before .before .before .before .before .before .before .reach2 .ensures .0) (c .before .before .before .before .before .before .before .before .before .before .before .reached2 .given .1 ∙ ap reached.At (c .before .before .before .before .before .before .before .before .spot5 .given .1))) (written-there (found (c .before .before .before .before .before .before .before .before .before .before .before .before .before .before .before .before .before)) (widthOf (c .before .before .before .before .before .before .before .before .before .before .before .before .before .before .before .before .before .before .fetched .given .0 .0)) (c .before .before .before .before .before .before .before .before .spot5 .given .0 .0) (c .before .before .before .before .before .write-number .ensures)) refl (c .before .price12 .ensures .0) (c .counted13 .ensures .0), c .before .before .before .before .before .before .before .before .before .before .before .before .before .before .before .before .before .before .before .before .before .before .before .before .before .before .before .loop .inv .1)
+
+enum-known-spot-6 : tie.Need-enum-known-spot-6 Inv-loop μ-loop
+enum-known-spot-6 c = search needs
+
+sub-write-own : tie.Need-sub-write-own Inv-loop μ-loop
+sub-write-own c = omega (arith, memory-room (c .before .before .before .before .before .before .before .before .before .before .before .before .before .before .before .before .before .before .before .before .before .before .before .before .before .before .before .before .args .reach) (widthOf (c .before .before .before .before .before .before .before .before .before .before .before .before .fetched .given .0 .0)) (c .before .before .before .before .before .before .before .before .before .before .before .before .before .before .before .before .before .before .before .before .before .loop .cells) (told saysReached (c .before .before .before .before .before .before .before .reach2 .ensures .0) (c .before .before .before .before .before .reached2 .given .1 ∙ ap reached.At (c .before .before .spot6 .given .1))))
+
+mul-write-own : tie.Need-mul-write-own Inv-loop μ-loop
+mul-write-own c = omega (arith, memory-room (c .before .before .before .before .before .before .before .before .before .before .before .before .before .before .before .before .before .before .before .before .before .before .before .before .before .before .before .before .args .reach) (widthOf (c .before .before .before .before .before .before .before .before .before .before .before .before .fetched .given .0 .0)) (c .before .before .before .before .before .before .before .before .before .before .before .before .before .before .before .before .before .before .before .before .before .loop .cells) (told saysReached (c .before .before .before .before .before .before .before .reach2 .ensures .0) (c .before .before .before .before .before .reached2 .given .1 ∙ ap reached.At (c .before .before .spot6 .given .1))))
+
+array-read-write-own : tie.Need-array-read-write-own Inv-loop μ-loop
+array-read-write-own c = omega (arith, memory-room (c .before .before .before .before .before .before .before .before .before .before .before .before .before .before .before .before .before .before .before .before .before .before .before .before .before .before .before .before .args .reach) (widthOf (c .before .before .before .before .before .before .before .before .before .before .before .before .fetched .given .0 .0)) (c .before .before .before .before .before .before .before .before .before .before .before .before .before .before .before .before .before .before .before .before .before .loop .cells) (told saysReached (c .before .before .before .before .before .before .before .reach2 .ensures .0) (c .before .before .before .before .before .reached2 .given .1 ∙ ap reached.At (c .before .before .spot6 .given .1))))
+
+write-own-requires : tie.Need-write-own-requires Inv-loop μ-loop
+write-own-requires c κs = ((own-room (c .before .before .before .before .before .before .before .before .before .before .before .before .before .before .before .before .before .before .before .before .before .before .before .before .before .before .before .before .args .reach) (widthOf (c .before .before .before .before .before .before .before .before .before .before .before .before .fetched .given .0 .0)) (c .before .before .before .before .before .before .before .reach2 .ensures .1) (c .before .before .before .before .before .reached2 .given .1 ∙ ap reached.At (c .before .before .spot6 .given .1))) .0, ((own-room (c .before .before .before .before .before .before .before .before .before .before .before .before .before .before .before .before .before .before .before .before .before .before .before .before .before .before .before .before .args .reach) (widthOf (c .before .before .before .before .before .before .before .before .before .before .before .before .fetched .given .0 .0)) (c .before .before .before .before .before .before .before .reach2 .ensures .1) (c .before .before .before .before .before .reached2 .given .1 ∙ ap reached.At (c .before .before .spot6 .given .1))) .1, omega (arith, c .before .before .before .before .before .before .before .before .before .before .before .before .before .before .before .before .before .before .before .before .before .before .before .before .before .before .before .before .pre .1 .end-within, (c .before .before .before .before .before .before .before .before .before .before .before .before .before .before .before .before .before .before .before .before .before .loop .inv .0) .long)))
+
+sub-regs-7 : tie.Need-sub-regs-7 Inv-loop μ-loop
+sub-regs-7 c = omega (arith, memory-room (c .before .before .before .before .before .before .before .before .before .before .before .before .before .before .before .before .before .before .before .before .before .before .before .before .before .before .before .before .before .before .before .args .reach) (widthOf (c .before .before .before .before .before .before .before .before .before .before .before .before .before .before .before .fetched .given .0 .0)) (c .before .before .before .before .before .before .before .before .before .before .before .before .before .before .before .before .before .before .before .before .before .before .before .before .loop .cells) (told saysReached (c .before .before .before .before .before .before .before .before .before .before .reach2 .ensures .0) (c .before .before .before .before .before .before .before .before .reached2 .given .1 ∙ ap reached.At (c .before .before .before .before .before .spot6 .given .1))))
+
+price-requires-13 : tie.Need-price-requires-13 Inv-loop μ-loop
+price-requires-13 c κs = search needs
+
+counted-requires-14 : tie.Need-counted-requires-14 Inv-loop μ-loop
+counted-requires-14 c κs = ((found (c .before .before .before .before .before .before .before .before .before .before .before .before .before .before .before .before)) .less, ((omega (arith, (c .before .before .before .before .before .before .before .before .before .before .before .before .before .before .before .before .before .before .before .before .before .before .before .before .before .before .loop .inv .0) .priced, (c .before .before .before .before .before .before .before .before .before .before .before .before .before .before .before .before .before .before .before .before .before .before .before .before .before .before .loop .inv .0) .limit, (c .before .before .before .before .before .before .before .before .before .before .before .before .before .before .before .before .before .before .before .before .before .before .before .before .before .before .loop .inv .0) .left-within, (found (c .before .before .before .before .before .before .before .before .before .before .before .before .before .before .before .before)) .less)), c .price13 .ensures .1))
+
+loop-less-24 : tie.Need-loop-less-24 Inv-loop μ-loop
+loop-less-24 c = omega (arith, c .counted14 .ensures .1)
+
+loop-again-24 : tie.Need-loop-again-24 Inv-loop μ-loop
+loop-again-24 c = (goes (found (c .before .before .before .before .before .before .before .before .before .before .before .before .before .before .before .before .before)) (store-acts (found (c .before .before .before .before .before .before .before .before .before .before .before .before .before .before .before .before .before)) (c .before .before .before .before .before .before .before .before .before .before .before .before .before .before .before .match3 .keys8)) (told saysReached (c .before .before .before .before .before .before .before .before .before .before .before .before .before .reach2 .ensures .0) (c .before .before .before .before .before .before .before .before .before .before .before .reached2 .given .1 ∙ ap reached.At (c .before .before .before .before .before .before .before .before .spot6 .given .1))) (written-there (found (c .before .before .before .before .before .before .before .before .before .before .before .before .before .before .before .before .before)) (widthOf (c .before .before .before .before .before .before .before .before .before .before .before .before .before .before .before .before .before .before .fetched .given .0 .0)) (c .before .before .before .before .before .before .before .before .spot6 .given .0 .0) (c .before .before .before .before .before .write-own .ensures)) refl (c .before .price13 .ensures .0) (c .counted14 .ensures .0), c .before .before .before .before .before .before .before .before .before .before .before .before .before .before .before .before .before .before .before .before .before .before .before .before .before .before .before .loop .inv .1)
+
+enum-known-spot-7 : tie.Need-enum-known-spot-7 Inv-loop μ-loop
+enum-known-spot-7 c = search needs
 
 mul-frame-4 : tie.Need-mul-frame-4 Inv-loop μ-loop
 mul-frame-4 c = search needs
@@ -617,40 +700,40 @@ array-copy-out-frame-4 : tie.Need-array-copy-out-frame-4 Inv-loop μ-loop
 array-copy-out-frame-4 c = search needs
 
 sub-with-local : tie.Need-sub-with-local Inv-loop μ-loop
-sub-with-local c = omega (arith, local-room (widthOf (c .before .before .before .before .before .before .before .before .before .before .before .before .fetched .given .0 .0)) (c .before .before .before .before .before .before .before .before .before .before .before .before .before .before .before .before .before .before .loop .cells) (told saysReached (c .before .before .before .before .before .before .before .reach2 .ensures) (c .before .before .before .before .before .reached2 .given .1 ∙ ap reached.At (c .before .before .spot5 .given .1))))
+sub-with-local c = omega (arith, local-room (c .before .before .before .before .before .before .before .before .before .before .before .before .before .before .before .before .before .before .before .before .before .before .before .before .before .before .before .before .args .reach) (widthOf (c .before .before .before .before .before .before .before .before .before .before .before .before .fetched .given .0 .0)) (c .before .before .before .before .before .before .before .before .before .before .before .before .before .before .before .before .before .before .before .before .before .loop .cells) (told saysReached (c .before .before .before .before .before .before .before .reach2 .ensures .0) (c .before .before .before .before .before .reached2 .given .1 ∙ ap reached.At (c .before .before .spot7 .given .1))), (c .before .before .before .before .before .before .before .before .before .before .before .before .before .before .before .before .before .before .before .before .before .loop .inv .0) .s-within)
 
 mul-with-local : tie.Need-mul-with-local Inv-loop μ-loop
-mul-with-local c = omega (arith, local-room (widthOf (c .before .before .before .before .before .before .before .before .before .before .before .before .fetched .given .0 .0)) (c .before .before .before .before .before .before .before .before .before .before .before .before .before .before .before .before .before .before .loop .cells) (told saysReached (c .before .before .before .before .before .before .before .reach2 .ensures) (c .before .before .before .before .before .reached2 .given .1 ∙ ap reached.At (c .before .before .spot5 .given .1))))
+mul-with-local c = omega (arith, local-room (c .before .before .before .before .before .before .before .before .before .before .before .before .before .before .before .before .before .before .before .before .before .before .before .before .before .before .before .before .args .reach) (widthOf (c .before .before .before .before .before .before .before .before .before .before .before .before .fetched .given .0 .0)) (c .before .before .before .before .before .before .before .before .before .before .before .before .before .before .before .before .before .before .before .before .before .loop .cells) (told saysReached (c .before .before .before .before .before .before .before .reach2 .ensures .0) (c .before .before .before .before .before .reached2 .given .1 ∙ ap reached.At (c .before .before .spot7 .given .1))), (c .before .before .before .before .before .before .before .before .before .before .before .before .before .before .before .before .before .before .before .before .before .loop .inv .0) .s-within)
 
 array-read-with-local : tie.Need-array-read-with-local Inv-loop μ-loop
-array-read-with-local c = omega (arith, local-room (widthOf (c .before .before .before .before .before .before .before .before .before .before .before .before .fetched .given .0 .0)) (c .before .before .before .before .before .before .before .before .before .before .before .before .before .before .before .before .before .before .loop .cells) (told saysReached (c .before .before .before .before .before .before .before .reach2 .ensures) (c .before .before .before .before .before .reached2 .given .1 ∙ ap reached.At (c .before .before .spot5 .given .1))))
+array-read-with-local c = omega (arith, local-room (c .before .before .before .before .before .before .before .before .before .before .before .before .before .before .before .before .before .before .before .before .before .before .before .before .before .before .before .before .args .reach) (widthOf (c .before .before .before .before .before .before .before .before .before .before .before .before .fetched .given .0 .0)) (c .before .before .before .before .before .before .before .before .before .before .before .before .before .before .before .before .before .before .before .before .before .loop .cells) (told saysReached (c .before .before .before .before .before .before .before .reach2 .ensures .0) (c .before .before .before .before .before .reached2 .given .1 ∙ ap reached.At (c .before .before .spot7 .given .1))), (c .before .before .before .before .before .before .before .before .before .before .before .before .before .before .before .before .before .before .before .before .before .loop .inv .0) .s-within)
 
 with-local-requires : tie.Need-with-local-requires Inv-loop μ-loop
-with-local-requires c κs = omega (arith, local-room (widthOf (c .before .before .before .before .before .before .before .before .before .before .before .before .fetched .given .0 .0)) (c .before .before .before .before .before .before .before .before .before .before .before .before .before .before .before .before .before .before .loop .cells) (told saysReached (c .before .before .before .before .before .before .before .reach2 .ensures) (c .before .before .before .before .before .reached2 .given .1 ∙ ap reached.At (c .before .before .spot5 .given .1))))
+with-local-requires c κs = omega (arith, local-room (c .before .before .before .before .before .before .before .before .before .before .before .before .before .before .before .before .before .before .before .before .before .before .before .before .before .before .before .before .args .reach) (widthOf (c .before .before .before .before .before .before .before .before .before .before .before .before .fetched .given .0 .0)) (c .before .before .before .before .before .before .before .before .before .before .before .before .before .before .before .before .before .before .before .before .before .loop .cells) (told saysReached (c .before .before .before .before .before .before .before .reach2 .ensures .0) (c .before .before .before .before .before .reached2 .given .1 ∙ ap reached.At (c .before .before .spot7 .given .1))))
 
 mul-frames-2 : tie.Need-mul-frames-2 Inv-loop μ-loop
-mul-frames-2 c = omega (arith, local-room (widthOf (c .before .before .before .before .before .before .before .before .before .before .before .before .before .fetched .given .0 .0)) (c .before .before .before .before .before .before .before .before .before .before .before .before .before .before .before .before .before .before .before .loop .cells) (told saysReached (c .before .before .before .before .before .before .before .before .reach2 .ensures) (c .before .before .before .before .before .before .reached2 .given .1 ∙ ap reached.At (c .before .before .before .spot5 .given .1))))
+mul-frames-2 c = omega (arith, local-room (c .before .before .before .before .before .before .before .before .before .before .before .before .before .before .before .before .before .before .before .before .before .before .before .before .before .before .before .before .before .args .reach) (widthOf (c .before .before .before .before .before .before .before .before .before .before .before .before .before .fetched .given .0 .0)) (c .before .before .before .before .before .before .before .before .before .before .before .before .before .before .before .before .before .before .before .before .before .before .loop .cells) (told saysReached (c .before .before .before .before .before .before .before .before .reach2 .ensures .0) (c .before .before .before .before .before .before .reached2 .given .1 ∙ ap reached.At (c .before .before .before .spot7 .given .1))), (c .before .before .before .before .before .before .before .before .before .before .before .before .before .before .before .before .before .before .before .before .before .before .loop .inv .0) .s-within)
 
 array-set-from-frames-2 : tie.Need-array-set-from-frames-2 Inv-loop μ-loop
-array-set-from-frames-2 c = omega (arith, local-room (widthOf (c .before .before .before .before .before .before .before .before .before .before .before .before .before .fetched .given .0 .0)) (c .before .before .before .before .before .before .before .before .before .before .before .before .before .before .before .before .before .before .before .loop .cells) (told saysReached (c .before .before .before .before .before .before .before .before .reach2 .ensures) (c .before .before .before .before .before .before .reached2 .given .1 ∙ ap reached.At (c .before .before .before .spot5 .given .1))))
+array-set-from-frames-2 c = omega (arith, local-room (c .before .before .before .before .before .before .before .before .before .before .before .before .before .before .before .before .before .before .before .before .before .before .before .before .before .before .before .before .before .args .reach) (widthOf (c .before .before .before .before .before .before .before .before .before .before .before .before .before .fetched .given .0 .0)) (c .before .before .before .before .before .before .before .before .before .before .before .before .before .before .before .before .before .before .before .before .before .before .loop .cells) (told saysReached (c .before .before .before .before .before .before .before .before .reach2 .ensures .0) (c .before .before .before .before .before .before .reached2 .given .1 ∙ ap reached.At (c .before .before .before .spot7 .given .1))), (c .before .before .before .before .before .before .before .before .before .before .before .before .before .before .before .before .before .before .before .before .before .before .loop .inv .0) .s-within)
 
-sub-regs-7 : tie.Need-sub-regs-7 Inv-loop μ-loop
-sub-regs-7 c = omega (arith, local-room (widthOf (c .before .before .before .before .before .before .before .before .before .before .before .before .before .fetched .given .0 .0)) (c .before .before .before .before .before .before .before .before .before .before .before .before .before .before .before .before .before .before .before .loop .cells) (told saysReached (c .before .before .before .before .before .before .before .before .reach2 .ensures) (c .before .before .before .before .before .before .reached2 .given .1 ∙ ap reached.At (c .before .before .before .spot5 .given .1))))
+sub-regs-8 : tie.Need-sub-regs-8 Inv-loop μ-loop
+sub-regs-8 c = omega (arith, local-room (c .before .before .before .before .before .before .before .before .before .before .before .before .before .before .before .before .before .before .before .before .before .before .before .before .before .before .before .before .before .args .reach) (widthOf (c .before .before .before .before .before .before .before .before .before .before .before .before .before .fetched .given .0 .0)) (c .before .before .before .before .before .before .before .before .before .before .before .before .before .before .before .before .before .before .before .before .before .before .loop .cells) (told saysReached (c .before .before .before .before .before .before .before .before .reach2 .ensures .0) (c .before .before .before .before .before .before .reached2 .given .1 ∙ ap reached.At (c .before .before .before .spot7 .given .1))), (c .before .before .before .before .before .before .before .before .before .before .before .before .before .before .before .before .before .before .before .before .before .before .loop .inv .0) .s-within)
 
-price-requires-12 : tie.Need-price-requires-12 Inv-loop μ-loop
-price-requires-12 c κs = search needs
+price-requires-14 : tie.Need-price-requires-14 Inv-loop μ-loop
+price-requires-14 c κs = search needs
 
-counted-requires-13 : tie.Need-counted-requires-13 Inv-loop μ-loop
-counted-requires-13 c κs = search needs
+counted-requires-15 : tie.Need-counted-requires-15 Inv-loop μ-loop
+counted-requires-15 c κs = ((found (c .before .before .before .before .before .before .before .before .before .before .before .before .before .before)) .less, ((omega (arith, (c .before .before .before .before .before .before .before .before .before .before .before .before .before .before .before .before .before .before .before .before .before .before .before .before .loop .inv .0) .priced, (c .before .before .before .before .before .before .before .before .before .before .before .before .before .before .before .before .before .before .before .before .before .before .before .before .loop .inv .0) .limit, (c .before .before .before .before .before .before .before .before .before .before .before .before .before .before .before .before .before .before .before .before .before .before .before .before .loop .inv .0) .left-within, (found (c .before .before .before .before .before .before .before .before .before .before .before .before .before .before)) .less)), c .price14 .ensures .1))
 
-loop-less-22 : tie.Need-loop-less-22 Inv-loop μ-loop
-loop-less-22 c = omega (arith, c .counted13 .ensures .1)
+loop-less-25 : tie.Need-loop-less-25 Inv-loop μ-loop
+loop-less-25 c = omega (arith, c .counted15 .ensures .1)
 
-loop-again-22 : tie.Need-loop-again-22 Inv-loop μ-loop
-loop-again-22 c = (goes (found (c .before .before .before .before .before .before .before .before .before .before .before .before .before .before .before)) (store-acts (found (c .before .before .before .before .before .before .before .before .before .before .before .before .before .before .before)) (c .before .before .before .before .before .before .before .before .before .before .before .before .before .match3 .keys8)) (told saysReached (c .before .before .before .before .before .before .before .before .before .before .before .reach2 .ensures) (c .before .before .before .before .before .before .before .before .before .reached2 .given .1 ∙ ap reached.At (c .before .before .before .before .before .before .spot5 .given .1))) (in-frame (found (c .before .before .before .before .before .before .before .before .before .before .before .before .before .before .before)) (widthOf (c .before .before .before .before .before .before .before .before .before .before .before .before .before .before .before .before .fetched .given .0 .0)) (c .before .before .before .before .before .before .spot5 .given .0 .0) (c .before .before .before .with-local .ensures)) refl (c .before .price12 .ensures .0) (c .counted13 .ensures .0), c .before .before .before .before .before .before .before .before .before .before .before .before .before .before .before .before .before .before .before .before .before .before .loop .inv .1)
+loop-again-25 : tie.Need-loop-again-25 Inv-loop μ-loop
+loop-again-25 c = (goes (found (c .before .before .before .before .before .before .before .before .before .before .before .before .before .before .before)) (store-acts (found (c .before .before .before .before .before .before .before .before .before .before .before .before .before .before .before)) (c .before .before .before .before .before .before .before .before .before .before .before .before .before .match3 .keys8)) (told saysReached (c .before .before .before .before .before .before .before .before .before .before .before .reach2 .ensures .0) (c .before .before .before .before .before .before .before .before .before .reached2 .given .1 ∙ ap reached.At (c .before .before .before .before .before .before .spot7 .given .1))) (in-frame (found (c .before .before .before .before .before .before .before .before .before .before .before .before .before .before .before)) (widthOf (c .before .before .before .before .before .before .before .before .before .before .before .before .before .before .before .before .fetched .given .0 .0)) (c .before .before .before .before .before .before .spot7 .given .0 .0) (c .before .before .before .with-local .ensures)) refl (c .before .price14 .ensures .0) (c .counted15 .ensures .0), c .before .before .before .before .before .before .before .before .before .before .before .before .before .before .before .before .before .before .before .before .before .before .before .before .before .loop .inv .1)
 
-enum-known-spot-6 : tie.Need-enum-known-spot-6 Inv-loop μ-loop
-enum-known-spot-6 c = search needs
+enum-known-spot-8 : tie.Need-enum-known-spot-8 Inv-loop μ-loop
+enum-known-spot-8 c = search needs
 
 mul-level-4 : tie.Need-mul-level-4 Inv-loop μ-loop
 mul-level-4 c = search needs
@@ -659,37 +742,37 @@ array-copy-out-level-4 : tie.Need-array-copy-out-level-4 Inv-loop μ-loop
 array-copy-out-level-4 c = search needs
 
 sub-with-cell : tie.Need-sub-with-cell Inv-loop μ-loop
-sub-with-cell c = omega (arith, cell-room (widthOf (c .before .before .before .before .before .before .before .before .before .before .before .before .fetched .given .0 .0)) (c .before .before .before .before .before .before .before .before .before .before .before .before .before .before .before .before .before .before .loop .cells) (told saysReached (c .before .before .before .before .before .before .before .reach2 .ensures) (c .before .before .before .before .before .reached2 .given .1 ∙ ap reached.At (c .before .before .spot6 .given .1))))
+sub-with-cell c = omega (arith, cell-room (c .before .before .before .before .before .before .before .before .before .before .before .before .before .before .before .before .before .before .before .before .before .before .before .before .before .before .before .before .args .reach) (widthOf (c .before .before .before .before .before .before .before .before .before .before .before .before .fetched .given .0 .0)) (c .before .before .before .before .before .before .before .before .before .before .before .before .before .before .before .before .before .before .before .before .before .loop .cells) (told saysReached (c .before .before .before .before .before .before .before .reach2 .ensures .0) (c .before .before .before .before .before .reached2 .given .1 ∙ ap reached.At (c .before .before .spot8 .given .1))), (c .before .before .before .before .before .before .before .before .before .before .before .before .before .before .before .before .before .before .before .before .before .loop .inv .0) .e-within)
 
 mul-with-cell : tie.Need-mul-with-cell Inv-loop μ-loop
-mul-with-cell c = omega (arith, cell-room (widthOf (c .before .before .before .before .before .before .before .before .before .before .before .before .fetched .given .0 .0)) (c .before .before .before .before .before .before .before .before .before .before .before .before .before .before .before .before .before .before .loop .cells) (told saysReached (c .before .before .before .before .before .before .before .reach2 .ensures) (c .before .before .before .before .before .reached2 .given .1 ∙ ap reached.At (c .before .before .spot6 .given .1))))
+mul-with-cell c = omega (arith, cell-room (c .before .before .before .before .before .before .before .before .before .before .before .before .before .before .before .before .before .before .before .before .before .before .before .before .before .before .before .before .args .reach) (widthOf (c .before .before .before .before .before .before .before .before .before .before .before .before .fetched .given .0 .0)) (c .before .before .before .before .before .before .before .before .before .before .before .before .before .before .before .before .before .before .before .before .before .loop .cells) (told saysReached (c .before .before .before .before .before .before .before .reach2 .ensures .0) (c .before .before .before .before .before .reached2 .given .1 ∙ ap reached.At (c .before .before .spot8 .given .1))), (c .before .before .before .before .before .before .before .before .before .before .before .before .before .before .before .before .before .before .before .before .before .loop .inv .0) .e-within)
 
 array-read-with-cell : tie.Need-array-read-with-cell Inv-loop μ-loop
-array-read-with-cell c = omega (arith, cell-room (widthOf (c .before .before .before .before .before .before .before .before .before .before .before .before .fetched .given .0 .0)) (c .before .before .before .before .before .before .before .before .before .before .before .before .before .before .before .before .before .before .loop .cells) (told saysReached (c .before .before .before .before .before .before .before .reach2 .ensures) (c .before .before .before .before .before .reached2 .given .1 ∙ ap reached.At (c .before .before .spot6 .given .1))))
+array-read-with-cell c = omega (arith, cell-room (c .before .before .before .before .before .before .before .before .before .before .before .before .before .before .before .before .before .before .before .before .before .before .before .before .before .before .before .before .args .reach) (widthOf (c .before .before .before .before .before .before .before .before .before .before .before .before .fetched .given .0 .0)) (c .before .before .before .before .before .before .before .before .before .before .before .before .before .before .before .before .before .before .before .before .before .loop .cells) (told saysReached (c .before .before .before .before .before .before .before .reach2 .ensures .0) (c .before .before .before .before .before .reached2 .given .1 ∙ ap reached.At (c .before .before .spot8 .given .1))), (c .before .before .before .before .before .before .before .before .before .before .before .before .before .before .before .before .before .before .before .before .before .loop .inv .0) .e-within)
 
 with-cell-requires : tie.Need-with-cell-requires Inv-loop μ-loop
-with-cell-requires c κs = omega (arith, cell-room (widthOf (c .before .before .before .before .before .before .before .before .before .before .before .before .fetched .given .0 .0)) (c .before .before .before .before .before .before .before .before .before .before .before .before .before .before .before .before .before .before .loop .cells) (told saysReached (c .before .before .before .before .before .before .before .reach2 .ensures) (c .before .before .before .before .before .reached2 .given .1 ∙ ap reached.At (c .before .before .spot6 .given .1))))
+with-cell-requires c κs = omega (arith, cell-room (c .before .before .before .before .before .before .before .before .before .before .before .before .before .before .before .before .before .before .before .before .before .before .before .before .before .before .before .before .args .reach) (widthOf (c .before .before .before .before .before .before .before .before .before .before .before .before .fetched .given .0 .0)) (c .before .before .before .before .before .before .before .before .before .before .before .before .before .before .before .before .before .before .before .before .before .loop .cells) (told saysReached (c .before .before .before .before .before .before .before .reach2 .ensures .0) (c .before .before .before .before .before .reached2 .given .1 ∙ ap reached.At (c .before .before .spot8 .given .1))))
 
 mul-levels-2 : tie.Need-mul-levels-2 Inv-loop μ-loop
-mul-levels-2 c = omega (arith, cell-room (widthOf (c .before .before .before .before .before .before .before .before .before .before .before .before .before .fetched .given .0 .0)) (c .before .before .before .before .before .before .before .before .before .before .before .before .before .before .before .before .before .before .before .loop .cells) (told saysReached (c .before .before .before .before .before .before .before .before .reach2 .ensures) (c .before .before .before .before .before .before .reached2 .given .1 ∙ ap reached.At (c .before .before .before .spot6 .given .1))))
+mul-levels-2 c = omega (arith, cell-room (c .before .before .before .before .before .before .before .before .before .before .before .before .before .before .before .before .before .before .before .before .before .before .before .before .before .before .before .before .before .args .reach) (widthOf (c .before .before .before .before .before .before .before .before .before .before .before .before .before .fetched .given .0 .0)) (c .before .before .before .before .before .before .before .before .before .before .before .before .before .before .before .before .before .before .before .before .before .before .loop .cells) (told saysReached (c .before .before .before .before .before .before .before .before .reach2 .ensures .0) (c .before .before .before .before .before .before .reached2 .given .1 ∙ ap reached.At (c .before .before .before .spot8 .given .1))), (c .before .before .before .before .before .before .before .before .before .before .before .before .before .before .before .before .before .before .before .before .before .before .loop .inv .0) .e-within)
 
 array-set-from-levels-2 : tie.Need-array-set-from-levels-2 Inv-loop μ-loop
-array-set-from-levels-2 c = omega (arith, cell-room (widthOf (c .before .before .before .before .before .before .before .before .before .before .before .before .before .fetched .given .0 .0)) (c .before .before .before .before .before .before .before .before .before .before .before .before .before .before .before .before .before .before .before .loop .cells) (told saysReached (c .before .before .before .before .before .before .before .before .reach2 .ensures) (c .before .before .before .before .before .before .reached2 .given .1 ∙ ap reached.At (c .before .before .before .spot6 .given .1))))
+array-set-from-levels-2 c = omega (arith, cell-room (c .before .before .before .before .before .before .before .before .before .before .before .before .before .before .before .before .before .before .before .before .before .before .before .before .before .before .before .before .before .args .reach) (widthOf (c .before .before .before .before .before .before .before .before .before .before .before .before .before .fetched .given .0 .0)) (c .before .before .before .before .before .before .before .before .before .before .before .before .before .before .before .before .before .before .before .before .before .before .loop .cells) (told saysReached (c .before .before .before .before .before .before .before .before .reach2 .ensures .0) (c .before .before .before .before .before .before .reached2 .given .1 ∙ ap reached.At (c .before .before .before .spot8 .given .1))), (c .before .before .before .before .before .before .before .before .before .before .before .before .before .before .before .before .before .before .before .before .before .before .loop .inv .0) .e-within)
 
-sub-regs-8 : tie.Need-sub-regs-8 Inv-loop μ-loop
-sub-regs-8 c = omega (arith, cell-room (widthOf (c .before .before .before .before .before .before .before .before .before .before .before .before .before .fetched .given .0 .0)) (c .before .before .before .before .before .before .before .before .before .before .before .before .before .before .before .before .before .before .before .loop .cells) (told saysReached (c .before .before .before .before .before .before .before .before .reach2 .ensures) (c .before .before .before .before .before .before .reached2 .given .1 ∙ ap reached.At (c .before .before .before .spot6 .given .1))))
+sub-regs-9 : tie.Need-sub-regs-9 Inv-loop μ-loop
+sub-regs-9 c = omega (arith, cell-room (c .before .before .before .before .before .before .before .before .before .before .before .before .before .before .before .before .before .before .before .before .before .before .before .before .before .before .before .before .before .args .reach) (widthOf (c .before .before .before .before .before .before .before .before .before .before .before .before .before .fetched .given .0 .0)) (c .before .before .before .before .before .before .before .before .before .before .before .before .before .before .before .before .before .before .before .before .before .before .loop .cells) (told saysReached (c .before .before .before .before .before .before .before .before .reach2 .ensures .0) (c .before .before .before .before .before .before .reached2 .given .1 ∙ ap reached.At (c .before .before .before .spot8 .given .1))), (c .before .before .before .before .before .before .before .before .before .before .before .before .before .before .before .before .before .before .before .before .before .before .loop .inv .0) .e-within)
 
-price-requires-13 : tie.Need-price-requires-13 Inv-loop μ-loop
-price-requires-13 c κs = search needs
+price-requires-15 : tie.Need-price-requires-15 Inv-loop μ-loop
+price-requires-15 c κs = search needs
 
-counted-requires-14 : tie.Need-counted-requires-14 Inv-loop μ-loop
-counted-requires-14 c κs = search needs
+counted-requires-16 : tie.Need-counted-requires-16 Inv-loop μ-loop
+counted-requires-16 c κs = ((found (c .before .before .before .before .before .before .before .before .before .before .before .before .before .before)) .less, ((omega (arith, (c .before .before .before .before .before .before .before .before .before .before .before .before .before .before .before .before .before .before .before .before .before .before .before .before .loop .inv .0) .priced, (c .before .before .before .before .before .before .before .before .before .before .before .before .before .before .before .before .before .before .before .before .before .before .before .before .loop .inv .0) .limit, (c .before .before .before .before .before .before .before .before .before .before .before .before .before .before .before .before .before .before .before .before .before .before .before .before .loop .inv .0) .left-within, (found (c .before .before .before .before .before .before .before .before .before .before .before .before .before .before)) .less)), c .price15 .ensures .1))
 
-loop-less-23 : tie.Need-loop-less-23 Inv-loop μ-loop
-loop-less-23 c = omega (arith, c .counted14 .ensures .1)
+loop-less-26 : tie.Need-loop-less-26 Inv-loop μ-loop
+loop-less-26 c = omega (arith, c .counted16 .ensures .1)
 
-loop-again-23 : tie.Need-loop-again-23 Inv-loop μ-loop
-loop-again-23 c = (goes (found (c .before .before .before .before .before .before .before .before .before .before .before .before .before .before .before)) (store-acts (found (c .before .before .before .before .before .before .before .before .before .before .before .before .before .before .before)) (c .before .before .before .before .before .before .before .before .before .before .before .before .before .match3 .keys8)) (told saysReached (c .before .before .before .before .before .before .before .before .before .before .before .reach2 .ensures) (c .before .before .before .before .before .before .before .before .before .reached2 .given .1 ∙ ap reached.At (c .before .before .before .before .before .before .spot6 .given .1))) (in-level (found (c .before .before .before .before .before .before .before .before .before .before .before .before .before .before .before)) (widthOf (c .before .before .before .before .before .before .before .before .before .before .before .before .before .before .before .before .fetched .given .0 .0)) (c .before .before .before .before .before .before .spot6 .given .0 .0) (c .before .before .before .with-cell .ensures)) refl (c .before .price13 .ensures .0) (c .counted14 .ensures .0), c .before .before .before .before .before .before .before .before .before .before .before .before .before .before .before .before .before .before .before .before .before .before .loop .inv .1)
+loop-again-26 : tie.Need-loop-again-26 Inv-loop μ-loop
+loop-again-26 c = (goes (found (c .before .before .before .before .before .before .before .before .before .before .before .before .before .before .before)) (store-acts (found (c .before .before .before .before .before .before .before .before .before .before .before .before .before .before .before)) (c .before .before .before .before .before .before .before .before .before .before .before .before .before .match3 .keys8)) (told saysReached (c .before .before .before .before .before .before .before .before .before .before .before .reach2 .ensures .0) (c .before .before .before .before .before .before .before .before .before .reached2 .given .1 ∙ ap reached.At (c .before .before .before .before .before .before .spot8 .given .1))) (in-level (found (c .before .before .before .before .before .before .before .before .before .before .before .before .before .before .before)) (widthOf (c .before .before .before .before .before .before .before .before .before .before .before .before .before .before .before .before .fetched .given .0 .0)) (c .before .before .before .before .before .before .spot8 .given .0 .0) (c .before .before .before .with-cell .ensures)) refl (c .before .price15 .ensures .0) (c .counted16 .ensures .0), c .before .before .before .before .before .before .before .before .before .before .before .before .before .before .before .before .before .before .before .before .before .before .before .before .before .loop .inv .1)
 
 can-call-requires : tie.Need-can-call-requires Inv-loop μ-loop
 can-call-requires c κs = search needs
@@ -703,11 +786,11 @@ enum-told-16 c = search needs
 by-check-requires-5 : tie.Need-by-check-requires-5 Inv-loop μ-loop
 by-check-requires-5 c κs = search needs
 
-loop-less-24 : tie.Need-loop-less-24 Inv-loop μ-loop
-loop-less-24 c = halted-less (c .before .before .before .before .before .before .before .before .before .before .before .before .before .loop .regs) (c .by-check5 .ensures) (ap saysChecked (c .before .enum-told16 .given .1)) ((found (c .before .before .before .before .before .before)) .less)
+loop-less-27 : tie.Need-loop-less-27 Inv-loop μ-loop
+loop-less-27 c = halted-less (c .before .before .before .before .before .before .before .before .before .before .before .before .before .before .before .before .loop .regs) (c .by-check5 .ensures) (ap saysChecked (c .before .enum-told16 .given .1)) ((found (c .before .before .before .before .before .before)) .less)
 
-loop-again-24 : tie.Need-loop-again-24 Inv-loop μ-loop
-loop-again-24 c = (ends (found (c .before .before .before .before .before .before)) (call-acts (found (c .before .before .before .before .before .before)) (c .before .before .before .before .match3 .keys9)) (told saysChecked (c .before .before .before .can-call .ensures) (c .before .enum-told16 .given .1)) (c .before .before .before .can-call .ensures) (c .by-check5 .ensures), c .before .before .before .before .before .before .before .before .before .before .before .before .before .loop .inv .1)
+loop-again-27 : tie.Need-loop-again-27 Inv-loop μ-loop
+loop-again-27 c = (ends (found (c .before .before .before .before .before .before)) (call-acts (found (c .before .before .before .before .before .before)) (c .before .before .before .before .match3 .keys9)) (told saysChecked (c .before .before .before .can-call .ensures) (c .before .enum-told16 .given .1)) (c .before .before .before .can-call .ensures) (c .by-check5 .ensures), c .before .before .before .before .before .before .before .before .before .before .before .before .before .before .before .before .loop .inv .1)
 
 mul-returns-4 : tie.Need-mul-returns-4 Inv-loop μ-loop
 mul-returns-4 c = omega (arith, call-room (told saysChecked (c .before .before .can-call .ensures) (c .enum-told15 .given .1)))
@@ -730,18 +813,18 @@ add-regs-8 c = omega (arith, call-room (told saysChecked (c .before .before .can
 add-regs-9 : tie.Need-add-regs-9 Inv-loop μ-loop
 add-regs-9 c = omega (arith, call-room (told saysChecked (c .before .before .can-call .ensures) (c .enum-told15 .given .1)))
 
-price-requires-14 : tie.Need-price-requires-14 Inv-loop μ-loop
-price-requires-14 c κs = search needs
+price-requires-16 : tie.Need-price-requires-16 Inv-loop μ-loop
+price-requires-16 c κs = search needs
 
-counted-requires-15 : tie.Need-counted-requires-15 Inv-loop μ-loop
-counted-requires-15 c κs = search needs
+counted-requires-17 : tie.Need-counted-requires-17 Inv-loop μ-loop
+counted-requires-17 c κs = ((found (c .before .before .before .before .before .before .before)) .less, ((omega (arith, (c .before .before .before .before .before .before .before .before .before .before .before .before .before .before .before .before .before .loop .inv .0) .priced, (c .before .before .before .before .before .before .before .before .before .before .before .before .before .before .before .before .before .loop .inv .0) .limit, (c .before .before .before .before .before .before .before .before .before .before .before .before .before .before .before .before .before .loop .inv .0) .left-within, (found (c .before .before .before .before .before .before .before)) .less)), c .price16 .ensures .1))
 
-loop-less-25 : tie.Need-loop-less-25 Inv-loop μ-loop
-loop-less-25 c = omega (arith, c .counted15 .ensures .1)
+loop-less-28 : tie.Need-loop-less-28 Inv-loop μ-loop
+loop-less-28 c = omega (arith, c .counted17 .ensures .1)
 
-loop-again-25 : tie.Need-loop-again-25 Inv-loop μ-loop
+loop-again-28 : tie.Need-loop-again-28 Inv-loop μ-loop
 unfolding noLocals
-loop-again-25 c = (goes (found (c .before .before .before .before .before .before .before .before)) (call-acts (found (c .before .before .before .before .before .before .before .before)) (c .before .before .before .before .before .before .match3 .keys9)) (told saysChecked (c .before .before .before .before .before .can-call .ensures) (c .before .before .before .enum-told15 .given .1)) refl refl (c .before .price14 .ensures .0) (c .counted15 .ensures .0), c .before .before .before .before .before .before .before .before .before .before .before .before .before .before .before .loop .inv .1)
+loop-again-28 c = (goes (found (c .before .before .before .before .before .before .before .before)) (call-acts (found (c .before .before .before .before .before .before .before .before)) (c .before .before .before .before .before .before .match3 .keys9)) (told saysChecked (c .before .before .before .before .before .can-call .ensures) (c .before .before .before .enum-told15 .given .1)) refl refl (c .before .price16 .ensures .0) (c .counted17 .ensures .0), c .before .before .before .before .before .before .before .before .before .before .before .before .before .before .before .before .before .before .loop .inv .1)
 
 can-call-requires-2 : tie.Need-can-call-requires-2 Inv-loop μ-loop
 can-call-requires-2 c κs = search needs
@@ -755,11 +838,11 @@ enum-told-18 c = search needs
 by-check-requires-6 : tie.Need-by-check-requires-6 Inv-loop μ-loop
 by-check-requires-6 c κs = search needs
 
-loop-less-26 : tie.Need-loop-less-26 Inv-loop μ-loop
-loop-less-26 c = halted-less (c .before .before .before .before .before .before .before .before .before .before .before .before .before .loop .regs) (c .by-check6 .ensures) (ap saysChecked (c .before .enum-told18 .given .1)) ((found (c .before .before .before .before .before .before)) .less)
+loop-less-29 : tie.Need-loop-less-29 Inv-loop μ-loop
+loop-less-29 c = halted-less (c .before .before .before .before .before .before .before .before .before .before .before .before .before .before .before .before .loop .regs) (c .by-check6 .ensures) (ap saysChecked (c .before .enum-told18 .given .1)) ((found (c .before .before .before .before .before .before)) .less)
 
-loop-again-26 : tie.Need-loop-again-26 Inv-loop μ-loop
-loop-again-26 c = (ends (found (c .before .before .before .before .before .before)) (call-top-acts (found (c .before .before .before .before .before .before)) (c .before .before .before .before .match3 .keys10)) (told saysChecked (c .before .before .before .can-call2 .ensures) (c .before .enum-told18 .given .1)) (c .before .before .before .can-call2 .ensures) (c .by-check6 .ensures), c .before .before .before .before .before .before .before .before .before .before .before .before .before .loop .inv .1)
+loop-again-29 : tie.Need-loop-again-29 Inv-loop μ-loop
+loop-again-29 c = (ends (found (c .before .before .before .before .before .before)) (call-top-acts (found (c .before .before .before .before .before .before)) (c .before .before .before .before .match3 .keys10)) (told saysChecked (c .before .before .before .can-call2 .ensures) (c .before .enum-told18 .given .1)) (c .before .before .before .can-call2 .ensures) (c .by-check6 .ensures), c .before .before .before .before .before .before .before .before .before .before .before .before .before .before .before .before .loop .inv .1)
 
 sub-to-2 : tie.Need-sub-to-2 Inv-loop μ-loop
 sub-to-2 c = omega (arith, call-room (told saysChecked (c .before .before .can-call2 .ensures) (c .enum-told17 .given .1)))
@@ -785,8 +868,8 @@ mul-frames-4 c = omega (arith, call-room (told saysChecked (c .before .before .c
 array-set-from-frames-4 : tie.Need-array-set-from-frames-4 Inv-loop μ-loop
 array-set-from-frames-4 c = omega (arith, call-room (told saysChecked (c .before .before .can-call2 .ensures) (c .enum-told17 .given .1)))
 
-sub-regs-9 : tie.Need-sub-regs-9 Inv-loop μ-loop
-sub-regs-9 c = omega (arith, call-room (told saysChecked (c .before .before .can-call2 .ensures) (c .enum-told17 .given .1)))
+sub-regs-10 : tie.Need-sub-regs-10 Inv-loop μ-loop
+sub-regs-10 c = omega (arith, call-room (told saysChecked (c .before .before .can-call2 .ensures) (c .enum-told17 .given .1)))
 
 add-regs-10 : tie.Need-add-regs-10 Inv-loop μ-loop
 add-regs-10 c = omega (arith, call-room (told saysChecked (c .before .before .can-call2 .ensures) (c .enum-told17 .given .1)))
@@ -794,18 +877,18 @@ add-regs-10 c = omega (arith, call-room (told saysChecked (c .before .before .ca
 add-regs-11 : tie.Need-add-regs-11 Inv-loop μ-loop
 add-regs-11 c = omega (arith, call-room (told saysChecked (c .before .before .can-call2 .ensures) (c .enum-told17 .given .1)))
 
-price-requires-15 : tie.Need-price-requires-15 Inv-loop μ-loop
-price-requires-15 c κs = search needs
+price-requires-17 : tie.Need-price-requires-17 Inv-loop μ-loop
+price-requires-17 c κs = search needs
 
-counted-requires-16 : tie.Need-counted-requires-16 Inv-loop μ-loop
-counted-requires-16 c κs = search needs
+counted-requires-18 : tie.Need-counted-requires-18 Inv-loop μ-loop
+counted-requires-18 c κs = ((found (c .before .before .before .before .before .before .before)) .less, ((omega (arith, (c .before .before .before .before .before .before .before .before .before .before .before .before .before .before .before .before .before .loop .inv .0) .priced, (c .before .before .before .before .before .before .before .before .before .before .before .before .before .before .before .before .before .loop .inv .0) .limit, (c .before .before .before .before .before .before .before .before .before .before .before .before .before .before .before .before .before .loop .inv .0) .left-within, (found (c .before .before .before .before .before .before .before)) .less)), c .price17 .ensures .1))
 
-loop-less-27 : tie.Need-loop-less-27 Inv-loop μ-loop
-loop-less-27 c = omega (arith, c .counted16 .ensures .1)
+loop-less-30 : tie.Need-loop-less-30 Inv-loop μ-loop
+loop-less-30 c = omega (arith, c .counted18 .ensures .1)
 
-loop-again-27 : tie.Need-loop-again-27 Inv-loop μ-loop
+loop-again-30 : tie.Need-loop-again-30 Inv-loop μ-loop
 unfolding noLocals
-loop-again-27 c = (goes (found (c .before .before .before .before .before .before .before .before)) (call-top-acts (found (c .before .before .before .before .before .before .before .before)) (c .before .before .before .before .before .before .match3 .keys10)) (told saysChecked (c .before .before .before .before .before .can-call2 .ensures) (c .before .before .before .enum-told17 .given .1)) refl refl (c .before .price15 .ensures .0) (c .counted16 .ensures .0), c .before .before .before .before .before .before .before .before .before .before .before .before .before .before .before .loop .inv .1)
+loop-again-30 c = (goes (found (c .before .before .before .before .before .before .before .before)) (call-top-acts (found (c .before .before .before .before .before .before .before .before)) (c .before .before .before .before .before .before .match3 .keys10)) (told saysChecked (c .before .before .before .before .before .can-call2 .ensures) (c .before .before .before .enum-told17 .given .1)) refl refl (c .before .price17 .ensures .0) (c .counted18 .ensures .0), c .before .before .before .before .before .before .before .before .before .before .before .before .before .before .before .before .before .before .loop .inv .1)
 
 can-exit-requires : tie.Need-can-exit-requires Inv-loop μ-loop
 can-exit-requires c κs = search needs
@@ -819,11 +902,11 @@ enum-told-20 c = search needs
 by-exit-requires : tie.Need-by-exit-requires Inv-loop μ-loop
 by-exit-requires c κs = search needs
 
-loop-less-28 : tie.Need-loop-less-28 Inv-loop μ-loop
-loop-less-28 c = halted-less (c .before .before .before .before .before .before .before .before .before .before .before .before .before .loop .regs) (c .by-exit .ensures) (ap saysExit (c .before .enum-told20 .given .1)) ((found (c .before .before .before .before .before .before)) .less)
+loop-less-31 : tie.Need-loop-less-31 Inv-loop μ-loop
+loop-less-31 c = halted-less (c .before .before .before .before .before .before .before .before .before .before .before .before .before .before .before .before .loop .regs) (c .by-exit .ensures) (ap saysExit (c .before .enum-told20 .given .1)) ((found (c .before .before .before .before .before .before)) .less)
 
-loop-again-28 : tie.Need-loop-again-28 Inv-loop μ-loop
-loop-again-28 c = (ends (found (c .before .before .before .before .before .before)) (exit-acts (found (c .before .before .before .before .before .before)) (c .before .before .before .before .match3 .keys11) refl) (told saysExit (c .before .before .before .can-exit .ensures) (c .before .enum-told20 .given .1)) (c .before .before .before .can-exit .ensures) (c .by-exit .ensures), c .before .before .before .before .before .before .before .before .before .before .before .before .before .loop .inv .1)
+loop-again-31 : tie.Need-loop-again-31 Inv-loop μ-loop
+loop-again-31 c = (ends (found (c .before .before .before .before .before .before)) (exit-acts (found (c .before .before .before .before .before .before)) (c .before .before .before .before .match3 .keys11) refl) (told saysExit (c .before .before .before .can-exit .ensures) (c .before .enum-told20 .given .1)) (c .before .before .before .can-exit .ensures) (c .by-exit .ensures), c .before .before .before .before .before .before .before .before .before .before .before .before .before .before .before .before .loop .inv .1)
 
 mul-frame-5 : tie.Need-mul-frame-5 Inv-loop μ-loop
 mul-frame-5 c = omega (arith, exit-room (told saysExit (c .before .before .can-exit .ensures) (c .enum-told19 .given .1)))
@@ -837,8 +920,8 @@ mul-level-5 c = omega (arith, exit-room (told saysExit (c .before .before .befor
 array-copy-out-level-5 : tie.Need-array-copy-out-level-5 Inv-loop μ-loop
 array-copy-out-level-5 c = omega (arith, exit-room (told saysExit (c .before .before .before .can-exit .ensures) (c .before .enum-told19 .given .1)))
 
-sub-regs-10 : tie.Need-sub-regs-10 Inv-loop μ-loop
-sub-regs-10 c = omega (arith, exit-room (told saysExit (c .before .before .before .before .can-exit .ensures) (c .before .before .enum-told19 .given .1)))
+sub-regs-11 : tie.Need-sub-regs-11 Inv-loop μ-loop
+sub-regs-11 c = omega (arith, exit-room (told saysExit (c .before .before .before .before .can-exit .ensures) (c .before .before .enum-told19 .given .1)))
 
 sub-e-after-drop : tie.Need-sub-e-after-drop Inv-loop μ-loop
 sub-e-after-drop c = omega (arith, exit-room (told saysExit (c .before .before .before .before .can-exit .ensures) (c .before .before .enum-told19 .given .1)))
@@ -846,20 +929,35 @@ sub-e-after-drop c = omega (arith, exit-room (told saysExit (c .before .before .
 e-after-drop-requires : tie.Need-e-after-drop-requires Inv-loop μ-loop
 e-after-drop-requires c κs = search needs
 
-price-requires-16 : tie.Need-price-requires-16 Inv-loop μ-loop
-price-requires-16 c κs = search needs
+price-requires-18 : tie.Need-price-requires-18 Inv-loop μ-loop
+price-requires-18 c κs = search needs
 
-counted-requires-17 : tie.Need-counted-requires-17 Inv-loop μ-loop
-counted-requires-17 c κs = search needs
+counted-requires-19 : tie.Need-counted-requires-19 Inv-loop μ-loop
+counted-requires-19 c κs = ((found (c .before .before .before .before .before .before .before .before .before .before)) .less, ((omega (arith, (c .before .before .before .before .before .before .before .before .before .before .before .before .before .before .before .before .before .before .before .before .loop .inv .0) .priced, (c .before .before .before .before .before .before .before .before .before .before .before .before .before .before .before .before .before .before .before .before .loop .inv .0) .limit, (c .before .before .before .before .before .before .before .before .before .before .before .before .before .before .before .before .before .before .before .before .loop .inv .0) .left-within, (found (c .before .before .before .before .before .before .before .before .before .before)) .less)), c .price18 .ensures .1))
 
-loop-less-29 : tie.Need-loop-less-29 Inv-loop μ-loop
-loop-less-29 c = omega (arith, c .counted17 .ensures .1)
+loop-less-32 : tie.Need-loop-less-32 Inv-loop μ-loop
+loop-less-32 c = omega (arith, c .counted19 .ensures .1)
 
-loop-again-29 : tie.Need-loop-again-29 Inv-loop μ-loop
-loop-again-29 c = (goes (found (c .before .before .before .before .before .before .before .before .before .before .before)) (exit-acts (found (c .before .before .before .before .before .before .before .before .before .before .before)) (c .before .before .before .before .before .before .before .before .before .match3 .keys11) (c .before .before .before .e-after-drop .ensures)) (told saysExit (c .before .before .before .before .before .before .before .before .can-exit .ensures) (c .before .before .before .before .before .before .enum-told19 .given .1)) refl refl (c .before .price16 .ensures .0) (c .counted17 .ensures .0), c .before .before .before .before .before .before .before .before .before .before .before .before .before .before .before .before .before .before .loop .inv .1)
+loop-again-32 : tie.Need-loop-again-32 Inv-loop μ-loop
+loop-again-32 c = (goes (found (c .before .before .before .before .before .before .before .before .before .before .before)) (exit-acts (found (c .before .before .before .before .before .before .before .before .before .before .before)) (c .before .before .before .before .before .before .before .before .before .match3 .keys11) (c .before .before .before .e-after-drop .ensures)) (told saysExit (c .before .before .before .before .before .before .before .before .can-exit .ensures) (c .before .before .before .before .before .before .enum-told19 .given .1)) refl refl (c .before .price18 .ensures .0) (c .counted19 .ensures .0), c .before .before .before .before .before .before .before .before .before .before .before .before .before .before .before .before .before .before .before .before .before .loop .inv .1)
+
+price-requires-19 : tie.Need-price-requires-19 Inv-loop μ-loop
+price-requires-19 c κs = search needs
+
+counted-requires-20 : tie.Need-counted-requires-20 Inv-loop μ-loop
+counted-requires-20 c κs = ((found (c .before .before .before .before)) .less, ((omega (arith, (c .before .before .before .before .before .before .before .before .before .before .before .before .before .before .loop .inv .0) .priced, (c .before .before .before .before .before .before .before .before .before .before .before .before .before .before .loop .inv .0) .limit, (c .before .before .before .before .before .before .before .before .before .before .before .before .before .before .loop .inv .0) .left-within, (found (c .before .before .before .before)) .less)), c .price19 .ensures .1))
+
+paused-requires : tie.Need-paused-requires Inv-loop μ-loop
+paused-requires c κs = search needs
+
+loop-less-33 : tie.Need-loop-less-33 Inv-loop μ-loop
+loop-less-33 c = omega (arith, c .before .counted20 .ensures .1, c .paused .ensures .1)
+
+loop-again-33 : tie.Need-loop-again-33 Inv-loop μ-loop
+loop-again-33 c = (paused (found (c .before .before .before .before .before .before)) (pause-is (found (c .before .before .before .before .before .before)) (c .before .before .before .before .match3 .keys12)) refl (c .before .before .price19 .ensures .0) (c .before .before .before .before .match3 .keys12) (c .before .counted20 .ensures .0) (c .paused .ensures .0), c .before .before .before .before .before .before .before .before .before .before .before .before .before .before .before .before .loop .inv .1)
 
 on-cells-requires : tie.Need-on-cells-requires Inv-loop μ-loop
-on-cells-requires c κs = ((c .before .before .before .before .before .before .before .before .before .before .loop .inv .0) .p-within, (omega (arith, c .before .before .if2 .left), (record { not07 = (c .before .match3 .rest .0 .0 .0 .0 .0 .0 .0 .0 .0 .0 .1); not08 = (c .before .match3 .rest .0 .0 .0 .0 .0 .0 .0 .0 .0 .1); not09 = (c .before .match3 .rest .0 .0 .0 .0 .0 .0 .0 .0 .1); not0B = (c .before .match3 .rest .0 .0 .0 .0 .0 .0 .0 .1); not0C = (c .before .match3 .rest .0 .0 .0 .0 .0 .0 .1); not0D = (c .before .match3 .rest .0 .0 .0 .0 .0 .1); not2D = (λ h. c .before .match3 .rest .0 .0 .0 .0 .1 (inl h)); not2E = (λ h. c .before .match3 .rest .0 .0 .0 .1 (inl h)); not2F = (λ h. c .before .match3 .rest .0 .0 .0 .0 .1 (inr (inl h))); not30 = (λ h. c .before .match3 .rest .0 .0 .0 .1 (inr (inl h))); not31 = (λ h. c .before .match3 .rest .0 .0 .0 .0 .1 (inr (inr (h)))); not32 = (λ h. c .before .match3 .rest .0 .0 .0 .1 (inr (inr (h)))); not38 = (c .before .match3 .rest .0 .0 .1); not39 = (c .before .match3 .rest .0 .1); not3D = (c .before .match3 .rest .1) })))
+on-cells-requires c κs = ((c .before .before .before .before .before .before .before .before .before .before .before .before .before .loop .inv .0) .p-within, (omega (arith, c .before .before .if3 .left), (record { not07 = (c .before .match3 .rest .0 .0 .0 .0 .0 .0 .0 .0 .0 .0 .0 .1); not08 = (c .before .match3 .rest .0 .0 .0 .0 .0 .0 .0 .0 .0 .0 .1); not09 = (c .before .match3 .rest .0 .0 .0 .0 .0 .0 .0 .0 .0 .1); not0B = (c .before .match3 .rest .0 .0 .0 .0 .0 .0 .0 .0 .1); not0C = (c .before .match3 .rest .0 .0 .0 .0 .0 .0 .0 .1); not0D = (c .before .match3 .rest .0 .0 .0 .0 .0 .0 .1); not2D = (λ h. c .before .match3 .rest .0 .0 .0 .0 .0 .1 (inl h)); not2E = (λ h. c .before .match3 .rest .0 .0 .0 .0 .1 (inl h)); not2F = (λ h. c .before .match3 .rest .0 .0 .0 .0 .0 .1 (inr (inl h))); not30 = (λ h. c .before .match3 .rest .0 .0 .0 .0 .1 (inr (inl h))); not31 = (λ h. c .before .match3 .rest .0 .0 .0 .0 .0 .1 (inr (inr (h)))); not32 = (λ h. c .before .match3 .rest .0 .0 .0 .0 .1 (inr (inr (h)))); not38 = (c .before .match3 .rest .0 .0 .0 .1); not39 = (c .before .match3 .rest .0 .0 .1); not3D = (c .before .match3 .rest .0 .1); not3E = (c .before .match3 .rest .1) })))
 
 enum-known-done-2 : tie.Need-enum-known-done-2 Inv-loop μ-loop
 enum-known-done-2 c = search needs
@@ -870,23 +968,23 @@ enum-told-21 c = search needs
 by-done-requires-2 : tie.Need-by-done-requires-2 Inv-loop μ-loop
 by-done-requires-2 c κs = search needs
 
-loop-less-30 : tie.Need-loop-less-30 Inv-loop μ-loop
-loop-less-30 c = halted-less (c .before .before .before .before .before .before .before .before .before .before .before .before .before .before .loop .regs) (c .by-done2 .ensures) (ap saysDone (c .before .enum-told21 .given .1)) ((found (c .before .before .before .before .before .before .before)) .less)
+loop-less-34 : tie.Need-loop-less-34 Inv-loop μ-loop
+loop-less-34 c = halted-less (c .before .before .before .before .before .before .before .before .before .before .before .before .before .before .before .before .before .loop .regs) (c .by-done2 .ensures) (ap saysDone (c .before .enum-told21 .given .1)) ((found (c .before .before .before .before .before .before .before)) .less)
 
-loop-again-30 : tie.Need-loop-again-30 Inv-loop μ-loop
-loop-again-30 c = (cells-end (found (c .before .before .before .before .before .before .before)) (c .before .before .before .before .before .match3 .rest .0 .0 .0 .0 .0 .1) (c .before .before .before .on-cells .ensures) (ap saysDone (c .before .enum-told21 .given .1)) (c .by-done2 .ensures), c .before .before .before .before .before .before .before .before .before .before .before .before .before .before .loop .inv .1)
+loop-again-34 : tie.Need-loop-again-34 Inv-loop μ-loop
+loop-again-34 c = (cells-end (found (c .before .before .before .before .before .before .before)) (c .before .before .before .before .before .match3 .rest .0 .0 .0 .0 .0 .0 .1) (c .before .before .before .before .before .match3 .rest .1) (c .before .before .before .on-cells .ensures) (ap saysDone (c .before .enum-told21 .given .1)) (c .by-done2 .ensures), c .before .before .before .before .before .before .before .before .before .before .before .before .before .before .before .before .before .loop .inv .1)
 
-price-requires-17 : tie.Need-price-requires-17 Inv-loop μ-loop
-price-requires-17 c κs = search needs
+price-requires-20 : tie.Need-price-requires-20 Inv-loop μ-loop
+price-requires-20 c κs = search needs
 
-counted-requires-18 : tie.Need-counted-requires-18 Inv-loop μ-loop
-counted-requires-18 c κs = search needs
+counted-requires-21 : tie.Need-counted-requires-21 Inv-loop μ-loop
+counted-requires-21 c κs = ((found (c .before .before .before .before .before .before .before .before .before)) .less, ((omega (arith, (c .before .before .before .before .before .before .before .before .before .before .before .before .before .before .before .before .before .before .before .loop .inv .0) .priced, (c .before .before .before .before .before .before .before .before .before .before .before .before .before .before .before .before .before .before .before .loop .inv .0) .limit, (c .before .before .before .before .before .before .before .before .before .before .before .before .before .before .before .before .before .before .before .loop .inv .0) .left-within, (found (c .before .before .before .before .before .before .before .before .before)) .less)), c .price20 .ensures .1))
 
-loop-less-31 : tie.Need-loop-less-31 Inv-loop μ-loop
-loop-less-31 c = omega (arith, c .counted18 .ensures .1)
+loop-less-35 : tie.Need-loop-less-35 Inv-loop μ-loop
+loop-less-35 c = omega (arith, c .counted21 .ensures .1)
 
-loop-again-31 : tie.Need-loop-again-31 Inv-loop μ-loop
-loop-again-31 c = (goes (found (c .before .before .before .before .before .before .before .before .before .before)) (cells-acts (found (c .before .before .before .before .before .before .before .before .before .before)) (c .before .before .before .before .before .before .before .before .match3 .rest .0 .0 .0 .0 .0 .1) (c .before .before .before .before .before .before .on-cells .ensures)) (ap saysDone (c .before .before .before .before .done2 .given .1)) refl refl (c .before .price17 .ensures .0) (c .counted18 .ensures .0), c .before .before .before .before .before .before .before .before .before .before .before .before .before .before .before .before .before .loop .inv .1)
+loop-again-35 : tie.Need-loop-again-35 Inv-loop μ-loop
+loop-again-35 c = (goes (found (c .before .before .before .before .before .before .before .before .before .before)) (cells-acts (found (c .before .before .before .before .before .before .before .before .before .before)) (c .before .before .before .before .before .before .before .before .match3 .rest .0 .0 .0 .0 .0 .0 .1) (c .before .before .before .before .before .before .before .before .match3 .rest .1) (c .before .before .before .before .before .before .on-cells .ensures)) (ap saysDone (c .before .before .before .before .done2 .given .1)) refl refl (c .before .price20 .ensures .0) (c .counted21 .ensures .0), c .before .before .before .before .before .before .before .before .before .before .before .before .before .before .before .before .before .before .before .before .loop .inv .1)
 
 finished-requires : tie.Need-finished-requires Inv-loop μ-loop
 finished-requires c κs = search needs
@@ -902,28 +1000,32 @@ rounds-spec =
     tie.close
     (tie.spec Inv-loop μ-loop
     loop-holds
+    foreign-requires
+    halted-requires
+    loop-less
+    loop-again
     fetch-requires
     enum-known-fetched
     enum-told
     by-fetch-requires
-    loop-less
-    loop-again
+    loop-less-2
+    loop-again-2
     branches-requires
     enum-known-done
     enum-told-2
     by-done-requires
-    loop-less-2
-    loop-again-2
-    price-requires
-    counted-requires
     loop-less-3
     loop-again-3
+    price-requires
+    counted-requires
+    loop-less-4
+    loop-again-4
     can-push-requires
     enum-told-3
     enum-told-4
     by-check-requires
-    loop-less-4
-    loop-again-4
+    loop-less-5
+    loop-again-5
     sub-returns
     mul-returns
     array-read-returns
@@ -933,14 +1035,14 @@ rounds-spec =
     add-regs
     price-requires-2
     counted-requires-2
-    loop-less-5
-    loop-again-5
+    loop-less-6
+    loop-again-6
     can-read-requires
     enum-told-5
     enum-told-6
     by-check-requires-2
-    loop-less-6
-    loop-again-6
+    loop-less-7
+    loop-again-7
     sub-cells
     mul-cells
     array-read-cells
@@ -949,14 +1051,14 @@ rounds-spec =
     add-regs-2
     price-requires-3
     counted-requires-3
-    loop-less-7
-    loop-again-7
+    loop-less-8
+    loop-again-8
     can-read-requires-2
     enum-told-7
     enum-told-8
     by-check-requires-3
-    loop-less-8
-    loop-again-8
+    loop-less-9
+    loop-again-9
     mul-frame
     array-copy-out-frame
     mul-level
@@ -973,14 +1075,14 @@ rounds-spec =
     e-after-pop-requires
     price-requires-4
     counted-requires-4
-    loop-less-9
-    loop-again-9
+    loop-less-10
+    loop-again-10
     can-catch-requires
     enum-told-9
     enum-told-10
     by-check-requires-4
-    loop-less-10
-    loop-again-10
+    loop-less-11
+    loop-again-11
     mul-below
     array-copy-out-below
     sub-to
@@ -991,7 +1093,7 @@ rounds-spec =
     add-frames
     mul-frames
     array-set-from-frames
-    sub-t107
+    sub-t114
     wrapping-add-u32-requires
     add-levels
     mul-levels
@@ -1002,23 +1104,23 @@ rounds-spec =
     add-regs-6
     price-requires-5
     counted-requires-5
-    loop-less-11
-    loop-again-11
-    price-requires-6
-    counted-requires-6
     loop-less-12
     loop-again-12
+    price-requires-6
+    counted-requires-6
+    loop-less-13
+    loop-again-13
     can-throw-requires
     enum-known-thrown
     enum-told-11
     by-throw-requires
-    loop-less-13
-    loop-again-13
+    loop-less-14
+    loop-again-14
     enum-told-12
     sub-regs-4
     counted-requires-7
-    loop-less-14
-    loop-again-14
+    loop-less-15
+    loop-again-15
     enum-known-throw
     mul-level-2
     array-copy-out-level-2
@@ -1031,14 +1133,14 @@ rounds-spec =
     sub-regs-5
     price-requires-7
     counted-requires-8
-    loop-less-15
-    loop-again-15
+    loop-less-16
+    loop-again-16
     reach-requires
     enum-known-reached
     enum-told-13
     by-reach-requires
-    loop-less-16
-    loop-again-16
+    loop-less-17
+    loop-again-17
     enum-known-spot
     read-number-requires
     sub-cells-3
@@ -1046,47 +1148,66 @@ rounds-spec =
     array-write-cells-4
     price-requires-8
     counted-requires-9
-    loop-less-17
-    loop-again-17
+    loop-less-18
+    loop-again-18
     enum-known-spot-2
-    mul-frame-3
-    array-copy-out-frame-3
-    local-requires
+    read-number-requires-2
     sub-cells-4
     mul-cells-7
     array-write-cells-5
     price-requires-9
     counted-requires-10
-    loop-less-18
-    loop-again-18
+    loop-less-19
+    loop-again-19
     enum-known-spot-3
-    mul-level-3
-    array-copy-out-level-3
-    cell-requires
+    mul-frame-3
+    array-copy-out-frame-3
+    local-requires
     sub-cells-5
     mul-cells-8
     array-write-cells-6
     price-requires-10
     counted-requires-11
-    loop-less-19
-    loop-again-19
+    loop-less-20
+    loop-again-20
+    enum-known-spot-4
+    mul-level-3
+    array-copy-out-level-3
+    cell-requires
+    sub-cells-6
+    mul-cells-9
+    array-write-cells-7
+    price-requires-11
+    counted-requires-12
+    loop-less-21
+    loop-again-21
     reach-requires-2
     enum-known-reached-2
     enum-told-14
     by-reach-requires-2
-    loop-less-20
-    loop-again-20
-    enum-known-spot-4
+    loop-less-22
+    loop-again-22
+    enum-known-spot-5
     sub-write-number
     mul-write-number
     array-read-write-number
     write-number-requires
     sub-regs-6
-    price-requires-11
-    counted-requires-12
-    loop-less-21
-    loop-again-21
-    enum-known-spot-5
+    price-requires-12
+    counted-requires-13
+    loop-less-23
+    loop-again-23
+    enum-known-spot-6
+    sub-write-own
+    mul-write-own
+    array-read-write-own
+    write-own-requires
+    sub-regs-7
+    price-requires-13
+    counted-requires-14
+    loop-less-24
+    loop-again-24
+    enum-known-spot-7
     mul-frame-4
     array-copy-out-frame-4
     sub-with-local
@@ -1095,12 +1216,12 @@ rounds-spec =
     with-local-requires
     mul-frames-2
     array-set-from-frames-2
-    sub-regs-7
-    price-requires-12
-    counted-requires-13
-    loop-less-22
-    loop-again-22
-    enum-known-spot-6
+    sub-regs-8
+    price-requires-14
+    counted-requires-15
+    loop-less-25
+    loop-again-25
+    enum-known-spot-8
     mul-level-4
     array-copy-out-level-4
     sub-with-cell
@@ -1109,17 +1230,17 @@ rounds-spec =
     with-cell-requires
     mul-levels-2
     array-set-from-levels-2
-    sub-regs-8
-    price-requires-13
-    counted-requires-14
-    loop-less-23
-    loop-again-23
+    sub-regs-9
+    price-requires-15
+    counted-requires-16
+    loop-less-26
+    loop-again-26
     can-call-requires
     enum-told-15
     enum-told-16
     by-check-requires-5
-    loop-less-24
-    loop-again-24
+    loop-less-27
+    loop-again-27
     mul-returns-4
     array-write-returns-3
     add-frames-2
@@ -1127,16 +1248,16 @@ rounds-spec =
     array-set-from-frames-3
     add-regs-8
     add-regs-9
-    price-requires-14
-    counted-requires-15
-    loop-less-25
-    loop-again-25
+    price-requires-16
+    counted-requires-17
+    loop-less-28
+    loop-again-28
     can-call-requires-2
     enum-told-17
     enum-told-18
     by-check-requires-6
-    loop-less-26
-    loop-again-26
+    loop-less-29
+    loop-again-29
     sub-to-2
     mul-to-2
     array-read-to-2
@@ -1145,40 +1266,45 @@ rounds-spec =
     add-frames-3
     mul-frames-4
     array-set-from-frames-4
-    sub-regs-9
+    sub-regs-10
     add-regs-10
     add-regs-11
-    price-requires-15
-    counted-requires-16
-    loop-less-27
-    loop-again-27
+    price-requires-17
+    counted-requires-18
+    loop-less-30
+    loop-again-30
     can-exit-requires
     enum-told-19
     enum-told-20
     by-exit-requires
-    loop-less-28
-    loop-again-28
+    loop-less-31
+    loop-again-31
     mul-frame-5
     array-copy-out-frame-5
     mul-level-5
     array-copy-out-level-5
-    sub-regs-10
+    sub-regs-11
     sub-e-after-drop
     e-after-drop-requires
-    price-requires-16
-    counted-requires-17
-    loop-less-29
-    loop-again-29
+    price-requires-18
+    counted-requires-19
+    loop-less-32
+    loop-again-32
+    price-requires-19
+    counted-requires-20
+    paused-requires
+    loop-less-33
+    loop-again-33
     on-cells-requires
     enum-known-done-2
     enum-told-21
     by-done-requires-2
-    loop-less-30
-    loop-again-30
-    price-requires-17
-    counted-requires-18
-    loop-less-31
-    loop-again-31
+    loop-less-34
+    loop-again-34
+    price-requires-20
+    counted-requires-21
+    loop-less-35
+    loop-again-35
     finished-requires
     same-length
     returns)

@@ -1,4 +1,4 @@
--- Made by .ci/named from put_frame.rules: 6f56b44360702202 4f39a786c530241e
+-- Made by .ci/named from put_frame.rules: 29bf42cc82edbc6b 4f39a786c530241e
 -- Each field of a frame is put where the one before it ends.
 use Rattle.links.specs.Depths.{localsCount}
 use Rattle.state.specs.Layout.{frameFields}

@@ -1,4 +1,4 @@
--- Made by .ci/named from put_level.rules: 3d31ebbe5345db75 55bbc8dd12520224
+-- Made by .ci/named from put_level.rules: ee3f21d7161d7ee9 55bbc8dd12520224
 -- Each field of an exception level is put where the one before it ends.
 use Rattle.links.specs.Depths.{levelCells}
 use Rattle.state.specs.Layout.{levelFields}

@@ -1,4 +1,4 @@
--- Made by .ci/named from put_links.rules: e5bab24a868318d3 40435f3da0f4b420
+-- Made by .ci/named from put_links.rules: 6bc94f45f76e8d0b 40435f3da0f4b420
 -- Each field of the linked stacks is put where the one before it ends.
 use Rattle.links.specs.Depths.{returnsDepth}
 use Rattle.state.specs.Layout.{linksFields}

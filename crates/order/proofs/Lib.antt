@@ -1,0 +1,2 @@
+-- the tasks in circular order, as the code counts them
+mod Asked

@@ -1,0 +1,3 @@
+pub mod Beyond
+pub mod Cells
+pub mod Spots

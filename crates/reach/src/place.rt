@@ -1,0 +1,83 @@
+// Where an access lies, and whether it may be made.
+use crate::Reached;
+use crate::Spot;
+use crate::bounds;
+use machine::Machine;
+use machine::Reach;
+ghost use mathlib.Core.Path.{_≡_};
+ghost use Prim.Native.Nat.{_+_, _≤_};
+ghost use lib.Dec.{leb};
+ghost use Rattle.plain.specs.Choice.{pick};
+ghost use Rattle.machine.specs.Limits.{memoryLength};
+ghost use Rattle.machine.specs.Reach.{alone};
+ghost use Rattle.machine.specs.Memory.{size};
+ghost use Rattle.machine.specs.declared.Width.the-variants.{Long};
+ghost use Rattle.machine.specs.declared.Place.the-variants.{Memory, Nowhere};
+ghost use Rattle.reach.specs.Spots.{widthOf, cellAt, allowed, spotOf, saysReached, ToldApart};
+
+// By the width that the code of a fetch or a store names.
+fn size_of(code: u8) -> u8
+    ensures { λ r. ⌜ (r ≡ size (widthOf code)) × (r ≤ 4) ⌝ }
+{
+    match code {
+        0x2D => 4,
+        0x2E => 4,
+        0x2F => 2,
+        0x30 => 2,
+        _ => 1,
+    }
+}
+
+// An access that is no cell's: 12 before 17.
+fn in_memory(reach: Reach, code: u8, address: u32) -> Reached
+    ensures { λ r. ⌜ (saysReached r ≡ allowed reach (widthOf code) (pick (leb (address + size (widthOf code)) memoryLength) (Memory address) Nowhere)) × ToldApart reach (widthOf code) r ⌝ }
+{
+    let at = address as usize;
+    let bytes = size_of(code);
+    if Machine::MEMORY < at + bytes as usize {
+        return Reached::Refused(12);
+    }
+    if bounds::is_foreign(bounds::barred(reach, address, bytes)) {
+        return Reached::Refused(17);
+    }
+    if at < reach.own {
+        // shared, or across the seam of the shared bytes and the own ones
+        return Reached::At(Spot::Memory(at));
+    }
+    if reach.end < at + bytes as usize {
+        return Reached::At(Spot::Memory(at));
+    }
+    Reached::At(Spot::Own(at))
+}
+
+fn cell_at(address: u32) -> Reached
+    requires { ⌜ 0x10000 ≤ address ⌝ }
+    ensures { λ r. ⌜ saysReached r ≡ allowed alone Long (cellAt address) ⌝ }
+{
+    let at = address as usize;
+    if 0x1005C < at {
+        return Reached::Refused(12);
+    }
+    if at % 4 != 0 {
+        return Reached::Refused(12);
+    }
+    if at <= 0x1003C {
+        return Reached::At(Spot::Local((at - 0x10000) / 4));
+    }
+    Reached::At(Spot::Cell((at - 0x10040) / 4))
+}
+
+// In memory, in a local cell, in an exception cell or refused: the one place where an access is judged.
+// The width is told by the code, a number: docs/DECISIONS.md.
+pub fn spot_of(reach: Reach, code: u8, address: u32) -> Reached
+    ensures { λ r. ⌜ (saysReached r ≡ spotOf reach (widthOf code) address) × ToldApart reach (widthOf code) r ⌝ }
+{
+    if address < 0x10000 {
+        return in_memory(reach, code, address);
+    }
+    match code {
+        0x2D => cell_at(address),
+        0x2E => cell_at(address),
+        _ => Reached::Refused(12),
+    }
+}

@@ -1,0 +1,31 @@
+-- Made by .ci/named from turned.rules: eae69191bb0d7db2 fd46eb4af688ae36
+-- The task after this one, and what is left.
+use native.Mathlib.Omega.{arith}
+use mathlib.Core.Path.{_≡_}
+use Prim.Native.Nat.{_%_}
+use Rattle.machine.specs.Limits.{tasksCount}
+use Rattle.machine.specs.Tasks.{following}
+use borrow.Author.Needs.{needs}
+use Rattle.run.proofs.ticks.turned.Statement.{statement}
+use Rattle.run.proofs.ticks.turned.Tie as tie
+
+sub-t8 : tie.Need-sub-t8
+sub-t8 c = search needs
+
+add-t8 : tie.Need-add-t8
+add-t8 c = search needs
+
+after-requires : tie.Need-after-requires
+after-requires c κs = search needs
+
+returns : tie.Need-returns
+returns c = let in-four : (c .before .before .before .before .before .args .t) % tasksCount ≡ (c .before .before .before .before .before .args .t) = omega (arith, c .before .before .before .before .before .pre .0) in rw (c .after .ensures, in-four)
+
+pub turned-spec : {M : Type 1} → statement M
+turned-spec =
+    tie.close
+    (tie.spec
+    sub-t8
+    add-t8
+    after-requires
+    returns)

@@ -1,0 +1,61 @@
+-- Made by .ci/named from put_machine.rules: ce2f38dca7d09071 23a9dca479e6e322
+-- Each field of a machine is put where the one before it ends.
+use Rattle.links.specs.Depths.{cellsDepth}
+use Rattle.state.specs.Layout.{stateFields}
+use Rattle.state.proofs.Putting.{put-counted, none, _then_, _first_, fields-put}
+use borrow.Author.Needs.{needs}
+use Rattle.state.proofs.writing.put_machine.Statement.{statement}
+use Rattle.state.proofs.writing.put_machine.Tie as tie
+
+slice-aggregate-put-array : tie.Need-slice-aggregate-put-array
+slice-aggregate-put-array c = search needs
+
+put-array-requires : tie.Need-put-array-requires
+put-array-requires c κs = search (needs, (slice-aggregate-put-array c))
+
+add-put-pointer : tie.Need-add-put-pointer
+add-put-pointer c = search needs
+
+put-pointer-requires : tie.Need-put-pointer-requires
+put-pointer-requires c κs = search needs
+
+add-put-links : tie.Need-add-put-links
+add-put-links c = search needs
+
+put-links-requires : tie.Need-put-links-requires
+put-links-requires c κs = search needs
+
+add-put-cell : tie.Need-add-put-cell
+add-put-cell c = search needs
+
+put-cell-requires : tie.Need-put-cell-requires
+put-cell-requires c κs = search needs
+
+add-put-cell-2 : tie.Need-add-put-cell-2
+add-put-cell-2 c = search needs
+
+put-cell-requires-2 : tie.Need-put-cell-requires-2
+put-cell-requires-2 c κs = search needs
+
+same-length : tie.Need-same-length
+same-length c = search needs
+
+returns : tie.Need-returns
+returns c = fields-put stateFields (c .before .before .before .before .before .before .before .before .before .before .before .before .before .before .before .before .before .before .before .before .before .before .before .before .args .machine) (c .before .before .before .before .before .before .before .before .before .before .before .before .before .before .before .before .before .before .before .before .before .before .before .before .args .state .now) (c .before .before .before .before .before .before .before .before .before .before .before .before .before .before .before .before .before .before .before .before .before .before .before .before .args .at) _ (put-counted cellsDepth (c .before .before .before .before .before .before .before .before .before .before .before .before .before .before .before .before .before .before .before .before .before .before .before .before .args .machine .cells) (slice-aggregate-put-array (c .before .before .before .before .before .before .before .before .before .before .before .before .before .before .before .before .before .before .before)) (c .before .before .before .before .before .before .before .before .before .before .before .before .before .before .before .before .before .before .put-array .ensures) first c .before .before .before .before .before .before .before .before .before .before .before .before .before .before .put-pointer .ensures then c .before .before .before .before .before .before .before .before .before .before .put-links .ensures then c .before .before .before .before .before .before .put-cell .ensures then c .before .before .put-cell2 .ensures then none)
+
+pub put-machine-spec : {M : Type 1} → statement M
+put-machine-spec =
+    tie.close
+    (tie.spec
+    slice-aggregate-put-array
+    put-array-requires
+    add-put-pointer
+    put-pointer-requires
+    add-put-links
+    put-links-requires
+    add-put-cell
+    put-cell-requires
+    add-put-cell-2
+    put-cell-requires-2
+    same-length
+    returns)

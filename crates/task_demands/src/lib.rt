@@ -1,0 +1,1 @@
+// Four tasks on one memory: theorems about the definition of their run, all in specs/. There is no code here.

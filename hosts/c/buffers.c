@@ -1,0 +1,22 @@
+#include "buffers.h"
+
+uint64_t number_at(const uint8_t *bytes, size_t width) {
+    uint64_t value = 0;
+    for (size_t i = 0; i < width; i++) value = value << 8 | bytes[i];
+    return value;
+}
+
+void put_number(uint8_t *bytes, size_t width, uint64_t value) {
+    for (size_t i = width; i-- > 0; value >>= 8) bytes[i] = (uint8_t)value;
+}
+
+uint64_t pointer(const uint8_t *bytes, size_t at) { return number_at(bytes + at, 8); }
+uint64_t cell(const uint8_t *bytes, size_t at) { return number_at(bytes + at, 4); }
+
+struct counted counted_in(const uint8_t *result) {
+    return (struct counted){pointer(result, GLIDECOTTON_ANSWER), pointer(result, GLIDECOTTON_STEPS), pointer(result, GLIDECOTTON_CYCLES)};
+}
+
+struct counted after(struct counted before, struct counted now) {
+    return (struct counted){now.answer, before.steps + now.steps, before.cycles + now.cycles};
+}

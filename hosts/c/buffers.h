@@ -1,0 +1,25 @@
+/* What stands in the buffers that a host lends: numbers of some bytes, the highest first, and what a run counted. */
+
+#ifndef BUFFERS_H
+#define BUFFERS_H
+
+#include "glidecotton.h"
+
+struct counted {
+    uint64_t answer, steps, cycles;
+};
+
+uint64_t number_at(const uint8_t *bytes, size_t width);
+
+void put_number(uint8_t *bytes, size_t width, uint64_t value);
+
+/* A pointer of a state or a number of a result, and a cell. */
+uint64_t pointer(const uint8_t *bytes, size_t at);
+uint64_t cell(const uint8_t *bytes, size_t at);
+
+struct counted counted_in(const uint8_t *result);
+
+/* What this run answers, with the steps and cycles of those before it added. */
+struct counted after(struct counted before, struct counted now);
+
+#endif

@@ -1,0 +1,36 @@
+//! What may be watched of a run from outside.
+
+use super::reach::Reach;
+use super::state::{Machine, MEMORY};
+use super::turn::Turn;
+
+/// What an observer sees of the machine: the levels of the linked stacks, the flag and the top cell, 0 where there is none.
+#[derive(Clone, Copy)]
+pub struct Seen {
+    pub s: usize,
+    pub e: usize,
+    pub flag: u32,
+    pub top: u32,
+}
+
+impl Seen {
+    pub fn of(machine: &Machine) -> Seen {
+        let top = machine.p.checked_sub(1).map_or(0, |at| machine.parameters[at]);
+        Seen { s: machine.s, e: machine.e, flag: machine.flag, top }
+    }
+}
+
+/// Told of what happens; what it has no use for passes by.
+pub trait Observer {
+    /// A machine is about to try an instruction, and is told of as it stands before.
+    fn trying(&mut self, _reach: Reach, _machine: &Machine, _memory: &[u8; MEMORY]) {}
+
+    /// The instruction was completed.
+    fn completed(&mut self, _code: u8, _before: Seen, _after: Seen) {}
+
+    /// The turn of the task of this number is over; it might have taken the quantum, or what was left of the budget.
+    fn turn_over(&mut self, _number: usize, _turn: Turn, _quantum: u64, _left: u64) {}
+}
+
+/// Nobody is watching.
+impl Observer for () {}

@@ -1,0 +1,235 @@
+//! Runs of four tasks: any instructions, programs in turns, loops, and calls that are not as they should be.
+
+use crate::assembler::assemble;
+use crate::chains::{memory, Lengths, Runner};
+use crate::fragments::{Arena, Taste, STYLES};
+use crate::grower::Grower;
+use crate::model::reach::{Reach, PART, SHARED, TASKS};
+use crate::model::run::MAX_BUDGET;
+use crate::model::state::{Answer, Machine, MEMORY};
+use crate::model::tasks::{run_tasks, Task, READY};
+use crate::operands::{around, seam};
+use crate::random::Random;
+use crate::state_bytes::{RESULT_BYTES, TASKS_BYTES};
+use crate::states::{broken, well_formed, CLAUSES};
+
+const ANY_INSTRUCTIONS: &str = "tasks: any instructions";
+const LOOPS: &str = "tasks: loops";
+const CHAIN: &str = "tasks: run in a chain";
+/// The kinds of runs; the first are the wrong calls.
+#[rustfmt::skip]
+pub const KINDS: [&str; 11] = [
+    "tasks: of a wrong length", "tasks: wrong result", "tasks: wrong memory", "tasks: wrong budget", "tasks: wrong quantum",
+    "tasks: wrong kept number", "tasks: broken, ready", "tasks: broken, not ready",
+    ANY_INSTRUCTIONS, LOOPS, CHAIN,
+];
+const WRONG: usize = 8;
+
+/// The numbers of the answers that a task can leave with.
+pub const ANSWERS_KEPT: [u64; 13] = [0, 3, 4, 5, 6, 7, 8, 9, 10, 11, 12, 13, 17];
+
+/// Work that is sure to be over after so many steps may be given any budget.
+const SOON: u64 = 10_000;
+
+const RIGHT: Lengths = Lengths { machines: TASKS_BYTES, memory: MEMORY, result: RESULT_BYTES };
+
+/// How long a turn and a run may be.
+#[derive(Clone, Copy)]
+pub struct Pace {
+    pub quantum: u64,
+    pub budget: u64,
+}
+
+/// Tasks of a random kind; gives the number of runs they took.
+pub fn any_tasks<R: Runner>(runner: &mut R, random: &mut Random) -> Result<u64, R::Failure> {
+    match random.below(20) {
+        0..=5 => wrong_call(runner, random),
+        6..=14 => any_instructions(runner, random),
+        15 => loops(runner, random),
+        _ => chain(runner, random),
+    }
+}
+
+/// Good tasks with one buffer, one number or one task not as it should be.
+fn wrong_call<R: Runner>(runner: &mut R, random: &mut Random) -> Result<u64, R::Failure> {
+    let mut tasks = good_tasks(random);
+    let mut memory = memory(random);
+    let mut lengths = RIGHT;
+    let mut pace = Pace { quantum: 3, budget: 5 };
+    let wrong = random.below(WRONG);
+    let task = &mut tasks[random.below(TASKS)];
+    match wrong {
+        0 => lengths.machines = random.pick(&[0, 1, TASKS_BYTES / TASKS, TASKS_BYTES - 1, TASKS_BYTES + 1]),
+        1 => lengths.result = random.pick(&[0, 1, 8, RESULT_BYTES - 1, RESULT_BYTES + 1]),
+        2 => lengths.memory = random.pick(&[0, 1, SHARED, MEMORY - 1, MEMORY + 1, 2 * MEMORY]),
+        3 => pace.budget = random.pick(&[1_000_001, 1_000_001, 1 << 32, (1 << 32) + 5, 1 << 63, u64::MAX]),
+        4 => pace.quantum = random.pick(&[0, 0, 1_001, 1_001, (1 << 32) + 3, u64::MAX]),
+        5 => task.kept = random.pick(&[2, 14, 15, 16, 18, 256, 257, 1 << 32, (1 << 32) + 1, 1 << 63, u64::MAX]),
+        broken_task => {
+            let clause = random.below(CLAUSES.len());
+            task.machine = broken(random, clause);
+            task.kept = if broken_task == 6 { READY } else { random.pick(&ANSWERS_KEPT) };
+        }
+    }
+    runner.tasks(KINDS[wrong], &mut tasks, &mut memory, pace, lengths)?;
+    Ok(1)
+}
+
+/// Any instruction around a seam, or an access in shared code whose data is around one, at the program counter of any task.
+fn any_instructions<R: Runner>(runner: &mut R, random: &mut Random) -> Result<u64, R::Failure> {
+    let mut tasks = good_tasks(random);
+    let mut memory = memory(random);
+    for (number, task) in tasks.iter_mut().enumerate() {
+        let (at, code) = if random.percent(50) {
+            (near(random, number), any_code(random))
+        } else {
+            (random.below(SHARED) as u32, random.between(0x2D, 0x32) as u8)
+        };
+        let machine = &mut task.machine;
+        machine.program_counter = at;
+        if let Some(byte) = memory.get_mut(at as usize) {
+            *byte = code;
+        }
+        if machine.p > 0 && random.percent(90) {
+            machine.parameters[machine.p - 1] = near(random, number);
+        }
+    }
+    let pace = Pace { quantum: random.pick(&[1, 1, 2, 3, 1_000]), budget: random.between(0, 12) as u64 };
+    runner.tasks(ANY_INSTRUCTIONS, &mut tasks, &mut memory, pace, RIGHT)?;
+    Ok(1)
+}
+
+/// An address around the end of shared memory, around an end of the task's own part, around any seam, or anywhere.
+fn near(random: &mut Random, number: usize) -> u32 {
+    match random.below(10) {
+        0..=2 => around(random, SHARED),
+        3 | 4 => {
+            let own = part(number) + PART * random.below(2);
+            around(random, own)
+        }
+        5..=8 => seam(random),
+        _ => random.below(MEMORY) as u32,
+    }
+}
+
+/// Often a code of several bytes or one that touches data, or any.
+fn any_code(random: &mut Random) -> u8 {
+    match random.below(10) {
+        0..=2 => random.between(0x2D, 0x32) as u8,
+        3..=5 => random.pick(&[0x34, 0x35, 0x36, 0x38, 0x80, 0xC0]),
+        6 => random.byte(),
+        _ => random.below(0x40) as u8,
+    }
+}
+
+/// A loop for each task, with a PAUSE in it or none, and budgets around whole turns.
+fn loops<R: Runner>(runner: &mut R, random: &mut Random) -> Result<u64, R::Failure> {
+    let mut tasks = [(); TASKS].map(|()| Task { machine: Machine::fresh(), kept: kept(random) });
+    let mut memory = memory(random);
+    for (number, task) in tasks.iter_mut().enumerate() {
+        let start = random.pick(&[100 * number, part(number)]);
+        let code = looping(random);
+        memory[start..start + code.len()].copy_from_slice(&code);
+        task.machine.program_counter = start as u32;
+    }
+    let any = random.between(1, 1_000) as u64;
+    let quantum = random.pick(&[1, 2, 999, 1_000, any]);
+    let budget = match random.below(500) {
+        0 => MAX_BUDGET,
+        _ => quantum * random.between(1, 9) as u64 + random.below(3) as u64 - 1,
+    };
+    runner.tasks(LOOPS, &mut tasks, &mut memory, Pace { quantum, budget }, RIGHT)?;
+    Ok(1)
+}
+
+fn looping(random: &mut Random) -> Vec<u8> {
+    let nops = |count| "NOP ".repeat(count);
+    let (before, after) = (nops(random.below(12)), nops(random.below(4)));
+    let pause = if random.percent(40) { "PAUSE " } else { "" };
+    assemble(&format!("here: {before}{pause}{after}BRA here"))
+}
+
+/// Several runs of four tasks, one after another, in which the host changes a byte and makes some ready again.
+fn chain<R: Runner>(runner: &mut R, random: &mut Random) -> Result<u64, R::Failure> {
+    let mut tasks = if random.percent(15) { [(); TASKS].map(|()| Task::fresh()) } else { good_tasks(random) };
+    let mut memory = memory(random);
+    let arenas = [0, 1, 2, 3].map(|number| arena(random, number));
+    for (task, arena) in tasks.iter_mut().zip(&arenas) {
+        task.machine.program_counter = arena.address(random);
+    }
+    let runs = random.between(1, 5) as u64;
+    for _ in 0..runs {
+        let quantum = quantum(random);
+        let tastes = [0, 1, 2, 3].map(|number| {
+            let (_, style) = random.pick(&STYLES);
+            Taste { style, arena: arenas[number], reach: Reach::Task(number) }
+        });
+        let copy: Box<[u8; MEMORY]> = memory.clone().into_boxed_slice().try_into().expect("a memory's length");
+        let target = random.between(1, 200) as u64;
+        let grown = Grower::new(random, copy, target).grow_turns(tasks.clone(), &tastes, quantum);
+        for (address, byte) in grown.chosen {
+            memory[address] = byte;
+        }
+        let budget = budget(random, &tasks, &memory, quantum, grown.steps);
+        runner.tasks(CHAIN, &mut tasks, &mut memory, Pace { quantum, budget }, RIGHT)?;
+        let elsewhere = random.below(MEMORY);
+        memory[elsewhere] = random.byte();
+        for (task, arena) in tasks.iter_mut().zip(&arenas) {
+            if !task.is_ready() && random.percent(60) {
+                task.kept = READY;
+                task.machine.program_counter = arena.address(random);
+            }
+        }
+    }
+    Ok(runs)
+}
+
+/// Around where growth stopped; or a large one where every task leaves soon.
+fn budget(random: &mut Random, tasks: &[Task; TASKS], memory: &[u8], quantum: u64, grown: u64) -> u64 {
+    let soon =
+        || run_tasks(&mut tasks.clone(), &mut memory.to_vec(), quantum, SOON, &mut ()).answer == Answer::Finished;
+    if random.percent(10) && soon() {
+        return random.pick(&[MAX_BUDGET, MAX_BUDGET, SOON]);
+    }
+    grown.saturating_sub(random.below(2) as u64) + random.below(3) as u64
+}
+
+fn quantum(random: &mut Random) -> u64 {
+    match random.below(5) {
+        0 => 1,
+        1 => 2,
+        2 => random.between(3, 10) as u64,
+        3 => random.between(11, 999) as u64,
+        _ => 1_000,
+    }
+}
+
+/// Code in shared memory, each task's own or every task's; in the task's part; or at one of that part's ends.
+fn arena(random: &mut Random, number: usize) -> Arena {
+    let (start, length) = match random.below(8) {
+        0..=2 => (PART * number, random.between(200, PART)),
+        3 => (0, 2_000),
+        4 | 5 => (part(number), random.between(200, PART)),
+        6 => (part(number) - 60, 120),
+        _ => (part(number) + PART - 100, 100),
+    };
+    Arena { start, length }
+}
+
+/// Where the task's part begins.
+fn part(number: usize) -> usize {
+    SHARED + PART * number
+}
+
+fn good_tasks(random: &mut Random) -> [Task; TASKS] {
+    [(); TASKS].map(|()| Task { machine: well_formed(random), kept: kept(random) })
+}
+
+/// Mostly ready, or any answer.
+fn kept(random: &mut Random) -> u64 {
+    if random.percent(75) {
+        READY
+    } else {
+        random.pick(&ANSWERS_KEPT)
+    }
+}
