@@ -27,11 +27,10 @@ enum {
     GLIDECOTTON_PART = 4096,           /* bytes of a task's own part */
     GLIDECOTTON_RESULT = 24,           /* bytes of a run's result */
     GLIDECOTTON_READ_RESULT = 8,       /* bytes of the reader's result */
-    GLIDECOTTON_STACK = 9216,          /* bytes of stack that are enough for a call, but of tasks; rust/stack measures it. On x86-64 a run
-                                          takes 8,384 at the most, a bench 6,800 and a read 3,792. On Arm, before request P1, it was
-                                          8,256, 6,800 and 3,632 */
-    GLIDECOTTON_TASKS_STACK = 65536    /* and for a call of glidecotton_run_tasks, which holds four machines; on x86-64 it takes 49,088
-                                          at the most */
+    GLIDECOTTON_STACK = 16384,         /* bytes of stack that are enough for a call, but of tasks; rust/stack measures it. On Arm a run of a
+                                          state takes 14,896 at the most, a bench 4,528 and a read 3,632 */
+    GLIDECOTTON_TASKS_STACK = 98304    /* and for a call of glidecotton_run_tasks, which holds four machines; on Arm it takes 84,160 at
+                                          the most */
 };
 
 /* Where a state has what. All zeros are a fresh machine. A cell, an address, the counter and the flag take 4 bytes, a pointer or

@@ -18,7 +18,8 @@ pub fn bench(image: &[u8], memory: &mut [u8], out: &mut [u8]) -> Printed
         return report::refusal(number, out);
     }
     let machine = loaded.machine;
-    let ran = run::run(memory, machine, loaded.budget);
+    let cells = machine.cells;
+    let ran = run::run_fresh(memory, cells, machine.p, loaded.budget);
     report::report(ran, out)
 }
 

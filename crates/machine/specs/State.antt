@@ -21,10 +21,13 @@ pub record Whole (m : Machine) : Type 0 where
   pub cells-long : length (m .cells) ≡ cellsDepth
   pub shaped : Shaped (m .links)
 
--- a fresh machine but for its parameter cells, deepest first
+-- a fresh machine but for its parameter cells and their depth
+abbrev pub freshWith : List ℕ → ℕ → Machine
+freshWith cells p = record { cells = cells; p = p; links = freshLinks; counter = 0; flag = 0 }
+
+-- a fresh machine but for these parameter cells, deepest first
 unfoldable pub machineWith : List ℕ → Machine
-machineWith cells =
-    record { cells = padded cellsDepth cells; p = length cells; links = freshLinks; counter = 0; flag = 0 }
+machineWith cells = freshWith (padded cellsDepth cells) (length cells)
 
 -- every number zero
 unfoldable pub freshMachine : Machine

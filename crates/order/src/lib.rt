@@ -19,8 +19,8 @@ pub fn after(t: usize) -> usize
 }
 
 // The next task in circular order that is ready, by the numbers that the tasks keep.
-pub fn next_ready(kept: [usize; Tasks::COUNT], from: usize) -> Next
-    ensures { λ r. ⌜ saysNext r ≡ firstKept kept (inOrder tasksCount (from % tasksCount)) ⌝ }
+pub fn next_ready(kept: &[usize; Tasks::COUNT], from: usize) -> Next
+    ensures { λ r. ⌜ saysNext r ≡ firstKept (now (kept .entry)) (inOrder tasksCount (from % tasksCount)) ⌝ }
 {
     let first = from % Tasks::COUNT;
     if kept[first] == Tasks::READY {

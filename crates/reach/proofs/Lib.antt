@@ -1,3 +1,4 @@
 pub mod Beyond
 pub mod Cells
 pub mod Spots
+pub mod Widths

@@ -1,14 +1,15 @@
 -- An access: in memory and in reach, in memory and in another's part, a cell in view, or nowhere.
-use mathlib.Core.Path.{_≡_, refl, sym, _∙_}
+use mathlib.Core.Path.{_≡_, refl, ap, sym, _∙_, subst}
 use mathlib.Core.Bool.{Bool, true, false}
-use Prim.Native.Nat.{ℕ, _+_, _-_, _/_, _≤_, _<_}
+use Prim.Native.Nat.{ℕ, zero, suc, _+_, _-_, _/_, _≤_, _<_}
 use native.Mathlib.Omega.{arith}
-use borrow.Author.Tests.{le-leb, lt-leb, ne-eqb}
-use lib.Dec.{leb, eqb}
+use borrow.Author.Tests.{le-leb, lt-leb, lt-ltb, ne-eqb}
+use lib.Dec.{T, ltb, leb, eqb, leb→le}
 use Rattle.plain.specs.Answer.{Answer, refuses, gives}
 use Rattle.plain.specs.Choice.{pick, both}
+use Rattle.plain.specs.Laws.Choice.{both-parts}
 use Rattle.machine.specs.Limits.{memoryLength}
-use Rattle.machine.specs.Reach.{Bar, alone, barOf, isForeign}
+use Rattle.machine.specs.Reach.{Bar, none, alone, barOf, isForeign}
 use Rattle.machine.specs.Memory.{size, isLong, placeOf, isListedCell, firstLocal, lastLocal, firstCell, lastCell}
 use Rattle.machine.specs.Laws.Clash.{never}
 use Rattle.machine.specs.declared.Reach.{Reach}
@@ -80,15 +81,29 @@ module _ (reach : Reach) (a : ℕ) (above : firstLocal ≤ a) where
   unfolding spotOf placeOf
   no-cell w short = rw (past-memory w, short)
 
--- an access that begins before the own part, or ends past it, is not in it
-pub before-own : (reach : Reach) (a n : ℕ) → a < reach .own → inOwn reach a n ≡ false
-before-own reach a n h = rw (lt-leb (reach .own) a h)
+-- what lies in the own part may be touched
+module _ (reach : Reach) where
+  own-free : (n a : ℕ) → a + n ≤ memoryLength → reach .own ≤ a → a + n ≤ reach .end → barOf reach a n ≡ none
+  unfolding barOf
+  own-free zero a limit low high = refl
+  own-free (suc n) a limit low high =
+      rw (lt-leb memoryLength a (omega arith), le-leb (reach .own) a low, lt-ltb a (reach .end) (omega arith), either (ltb a (reach .shared)))
+      (own-free n (suc a) (omega arith) (omega arith) (omega arith))
+    where
+      either : (b : Bool) → pick b true true ≡ true
+      either true = refl
+      either false = refl
 
-pub past-own : (reach : Reach) (a n : ℕ) → reach .own ≤ a → reach .end < a + n → inOwn reach a n ≡ false
-past-own reach a n h g = rw (le-leb (reach .own) a h, lt-leb (a + n) (reach .end) g)
+  module _ (w : Width) (a : ℕ) {bytes : ℕ} (es : bytes ≡ size w) {b : Bool} (eb : b ≡ both (leb (reach .own) a) (leb (a + bytes) (reach .end))) where
+    -- an access is told apart by the test for it
+    pub own-told : {verdict : Bool} → b ≡ verdict → inOwn reach a (size w) ≡ verdict
+    own-told v = ap (λ (n : ℕ). both (leb (reach .own) a) (leb (a + n) (reach .end))) (sym es) ∙ (sym eb ∙ v)
 
-pub in-own : (reach : Reach) (a n : ℕ) → reach .own ≤ a → a + n ≤ reach .end → inOwn reach a n ≡ true
-in-own reach a n h g = rw (le-leb (reach .own) a h, le-leb (a + n) (reach .end) g)
+    pub own-allowed : a + bytes ≤ memoryLength → b ≡ true → gives (Memory a) ≡ allowed reach w (inMemory w a)
+    own-allowed within v =
+        let t = both-parts (leb (reach .own) a) (leb (a + bytes) (reach .end)) (subst T (sym (sym eb ∙ v)) tt) in
+        allowed-here reach w a es refl within
+        (ap isForeign (sym (own-free bytes a within (leb→le (reach .own) a (t .0)) (leb→le (a + bytes) (reach .end) (t .1)))))
 
 no-memory : (a k : ℕ) → gives (Memory k) ≡ allowed alone Long (cellAt a) → ⊥
 no-memory a k e = go (isListedCell firstLocal lastLocal a) (isListedCell firstCell lastCell a) e

@@ -7,7 +7,7 @@ use machine::Reach;
 ghost use mathlib.Core.Path.{_≡_};
 ghost use Prim.Native.Nat.{_+_, _≤_};
 ghost use lib.Dec.{leb};
-ghost use Rattle.plain.specs.Choice.{pick};
+ghost use Rattle.plain.specs.Choice.{pick, both};
 ghost use Rattle.machine.specs.Limits.{memoryLength};
 ghost use Rattle.machine.specs.Reach.{alone};
 ghost use Rattle.machine.specs.Memory.{size};
@@ -19,13 +19,26 @@ ghost use Rattle.reach.specs.Spots.{widthOf, cellAt, allowed, spotOf, sa
 fn size_of(code: u8) -> u8
     ensures { λ r. ⌜ (r ≡ size (widthOf code)) × (r ≤ 4) ⌝ }
 {
-    match code {
-        0x2D => 4,
-        0x2E => 4,
-        0x2F => 2,
-        0x30 => 2,
-        _ => 1,
+    if code < 0x2D {
+        return 1;
     }
+    if code < 0x2F {
+        return 4;
+    }
+    if code < 0x31 {
+        return 2;
+    }
+    1
+}
+
+// Bytes from here to before there lie wholly in the own part.
+fn in_own(reach: Reach, at: usize, end: usize) -> bool
+    ensures { λ b. ⌜ b ≡ both (leb (reach .own) at) (leb end (reach .end)) ⌝ }
+{
+    if at < reach.own {
+        return false;
+    }
+    end <= reach.end
 }
 
 // An access that is no cell's: 12 before 17.
@@ -34,20 +47,18 @@ fn in_memory(reach: Reach, code: u8, address: u32) -> Reached
 {
     let at = address as usize;
     let bytes = size_of(code);
-    if Machine::MEMORY < at + bytes as usize {
+    let end = at + bytes as usize;
+    if Machine::MEMORY < end {
         return Reached::Refused(12);
+    }
+    if in_own(reach, at, end) {
+        return Reached::At(Spot::Own(at));
     }
     if bounds::is_foreign(bounds::barred(reach, address, bytes)) {
         return Reached::Refused(17);
     }
-    if at < reach.own {
-        // shared, or across the seam of the shared bytes and the own ones
-        return Reached::At(Spot::Memory(at));
-    }
-    if reach.end < at + bytes as usize {
-        return Reached::At(Spot::Memory(at));
-    }
-    Reached::At(Spot::Own(at))
+    // shared, or across the seam of the shared bytes and the own ones
+    Reached::At(Spot::Memory(at))
 }
 
 fn cell_at(address: u32) -> Reached

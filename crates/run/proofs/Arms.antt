@@ -32,9 +32,10 @@ use Rattle.machine.specs.declared.Place.the-variants.{Memory, Local, Cell, Nowh
 use Rattle.reach.specs.Spots.{widthOf, spotOf}
 use Rattle.run.specs.Accesses.{reachOf}
 use Rattle.run.specs.Answers.{stepBy}
-use Rattle.run.specs.Machines.{inReach}
+use Rattle.run.specs.Machines.{inReach, linksOf}
 use Rattle.run.specs.Promises.{CarriesOut, Spells, Unaltered}
 use Rattle.run.specs.Registers.{machineIn, movedTo, haltedBy}
+use Rattle.run.specs.Rows.{framesIn, levelsIn, Hold}
 use Rattle.run.specs.Verdicts.{pushable, readable, callable, catchable, throwable, exitable, sAfterPop, eAfterDropOf, eAfterPop}
 use Rattle.run.specs.declared.Registers.{Registers}
 use Rattle.run.specs.declared.Stack.{Stack}
@@ -82,6 +83,15 @@ placed false = refl
 divided : (b : Bool) → decided (Lack-discrete (pick b aReturnCell nothing) aDivisor) ≡ false
 divided true = refl
 divided false = refl
+
+-- levels that stand in rows
+pub held-there : {mem cells returns : List ℕ} {rows : List (List ℕ)} {copies : List ℕ} {frames : List Frame} {levels : List Level} {p r s e counter flag cost : ℕ} →
+    Hold rows copies frames levels →
+    done mem (record { cells = cells; p = p; links = linksOf returns r frames s levels e; counter = counter; flag = flag }) cost ≡
+    done mem (record { cells = cells; p = p; links = linksOf returns r (framesIn rows copies) s (levelsIn rows copies) e; counter = counter; flag = flag }) cost
+held-there {mem} {cells} {returns} {rows} {copies} {frames} {levels} {p} {r} {s} {e} {counter} {flag} {cost} held =
+    ap (λ (f : List Frame). done mem (record { cells = cells; p = p; links = linksOf returns r f s levels e; counter = counter; flag = flag }) cost) (sym (held .frames-are)) ∙
+    ap (λ (l : List Level). done mem (record { cells = cells; p = p; links = linksOf returns r (framesIn rows copies) s l e; counter = counter; flag = flag }) cost) (sym (held .levels-are))
 
 module _ {reach : Reach} {inTurns : Bool} {mem₀ : List ℕ} {m₀ : Machine} {budget : ℕ} {mem cells returns : List ℕ} {frames : List Frame} {levels : List Level} {g : Registers}
     {code operand next : ℕ} (found : Found reach inTurns mem₀ m₀ budget mem cells returns frames levels g code operand next)
@@ -194,16 +204,21 @@ module _ {reach : Reach} {inTurns : Bool} {mem₀ : List ℕ} {m₀ : Machine} {
             let top : copyOfP levels (g .e) + 1 ≤ cellsDepth = omega arith in
             rw (e .names, zero, e .known, e .asks, few, none, le-ltb cellsDepth (copyOfP levels (g .e) + 1) top, eq-eqb code 0x0D key, add-one (copyOfS levels (g .e)))
 
+    -- what it read of the level is where it goes
+    pub thrown-there : (n : ℕ) {p s r address : ℕ} → p ≡ copyOfP levels (g .e) → s ≡ copyOfS levels (g .e) → r ≡ copyOfR frames (s + 1) → address ≡ getD levels (g .e) noLevel .address →
+        thrownBy (Code n) ≡ done mem (machineIn (set cells p n) returns frames levels (movedTo g (p + 1) r s (g .e - 1) address (g .flag))) (cyclesOf code)
+    thrown-there n ep es er ea = rw (ea, er, es, ep)
+
     -- EXIT
-    pub exit-acts : code ≡ 0x3D → {left : ℕ} → left ≡ eAfterDropOf (g .s - 1) (g .e) (copyOfS levels (g .e)) →
-        Does (exitable (g .s))
-        (λ u. done mem (machineIn cells returns frames levels (movedTo g (g .p) (copyOfR frames (g .s)) (g .s - 1) left (getD frames (g .s) noFrame .address) (g .flag))) (cyclesOf code))
+    pub exit-acts : code ≡ 0x3D → {left r address : ℕ} → left ≡ eAfterDropOf (g .s - 1) (g .e) (copyOfS levels (g .e)) → r ≡ copyOfR frames (g .s) →
+        address ≡ getD frames (g .s) noFrame .address →
+        Does (exitable (g .s)) (λ u. done mem (machineIn cells returns frames levels (movedTo g (g .p) r (g .s - 1) left address (g .flag))) (cyclesOf code))
     unfolding carried rowOf entryAt table exitable barOf
-    exit-acts key ee =
+    exit-acts key ee er ea =
         let none : 0 ≤ g .p = omega arith in
         let depth : g .p - 0 + 0 ≡ g .p = omega arith in
         let same : g .p - 0 ≤ g .p = omega arith in
-        record { on = λ h. omega (arith, key); is = rw (key, le-ltb (g .p) 0 none, room (g .p - 0) same, depth, ee, drop-same (g .s - 1) (g .e) levels) (one-check (eqb (g .s) 0) 0 _) }
+        record { on = λ h. omega (arith, key); is = rw (key, le-ltb (g .p) 0 none, room (g .p - 0) same, depth, ee, er, ea, drop-same (g .s - 1) (g .e) levels) (one-check (eqb (g .s) 0) 0 _) }
 
     -- JSL and JSR
     abbrev pub calledTo : ℕ → ℕ → Stepped
@@ -299,16 +314,6 @@ module _ {reach : Reach} {inTurns : Bool} {mem₀ : List ℕ} {m₀ : Machine} {
     pub written-there : (w : Width) (a : ℕ) {mem′ : List ℕ} → mem′ ≡ sets mem a (bytesOf (size w) (getD cells (g .p - 2) 0)) →
         storedBy w (Memory a) ≡ done mem′ (machineIn cells returns frames levels lowered) (cyclesOf code)
     written-there w a e = ap (λ (l : List ℕ). done l (machineIn cells returns frames levels lowered) (cyclesOf code)) (sym e)
-
-    pub in-frame : (w : Width) (k : ℕ) {f : Frame} →
-        (let frame = getD frames (g .s) noFrame in f ≡ record { locals = set (frame .locals) k (getD cells (g .p - 2) 0); r = frame .r; address = frame .address }) →
-        storedBy w (Local k) ≡ done mem (machineIn cells returns (set frames (g .s) f) levels lowered) (cyclesOf code)
-    in-frame w k e = ap (λ (f : Frame). done mem (machineIn cells returns (set frames (g .s) f) levels lowered) (cyclesOf code)) (sym e)
-
-    pub in-level : (w : Width) (k : ℕ) {l : Level} →
-        (let level = getD levels (g .e) noLevel in l ≡ record { cells = set (level .cells) k (getD cells (g .p - 2) 0); s = level .s; p = level .p; address = level .address }) →
-        storedBy w (Cell k) ≡ done mem (machineIn cells returns frames (set levels (g .e) l) lowered) (cyclesOf code)
-    in-level w k e = ap (λ (l : Level). done mem (machineIn cells returns frames (set levels (g .e) l) lowered) (cyclesOf code)) (sym e)
 
     -- a store to a local leaves the exception cells as they are, and the other way round
     same-level : set levels (g .e) (getD levels (g .e) noLevel) ≡ levels

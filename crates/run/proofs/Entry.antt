@@ -1,12 +1,16 @@
 -- The door: a memory, state or budget that is not as asked is answered 2, anything else is run.
 use mathlib.Core.Path.{_≡_, ap, sym, _∙_, subst⁻¹}
-use mathlib.Core.Bool.{Bool, true, false, not}
+use mathlib.Core.Bool.{Bool, true, false}
 use mathlib.Core.List.{List}
 use Prim.Native.Nat.{ℕ, _≤_, _<_}
+use native.Mathlib.Omega.{arith}
 use borrow.Author.Tests.{eq-eqb, ne-eqb, le-leb, lt-leb}
 use lib.Dec.{leb}
 use lib.ListN.{length}
-use Rattle.plain.specs.Choice.{both}
+use Rattle.plain.specs.Choice.{pick, both}
+use Rattle.links.specs.Depths.{cellsDepth}
+use Rattle.links.specs.Fresh.{freshLinks}
+use Rattle.links.specs.Linked.{linked}
 use Rattle.machine.specs.Limits.{memoryLength, mostBudget, mostQuantum, tasksCount}
 use Rattle.machine.specs.Reach.{alone}
 use Rattle.machine.specs.State.{wellFormed}
@@ -18,6 +22,7 @@ use Rattle.machine.specs.declared.Tasks.{Tasks}
 use Rattle.machine.specs.declared.RanTasks.{RanTasks}
 use Rattle.run.specs.Machines.{ranOf}
 use Rattle.run.specs.Clocks.{ranTasksOf}
+use Rattle.machine.specs.State.{freshWith}
 use Rattle.machine.specs.Laws.Pairs.{paired-length}
 
 module _ (mem : List ℕ) (m : Machine) (budget : ℕ) where
@@ -44,10 +49,30 @@ module _ (mem : List ℕ) (m : Machine) (budget : ℕ) where
   unfolding runOf
   taken good after e = rw (good, runOf) e
 
--- a test that is turned round
-pub turned : (b : Bool) {c : Bool} → not b ≡ c → b ≡ not c
-turned true e = ap not e
-turned false e = ap not e
+-- a machine that is fresh but for its parameter cells is well formed where they are within their depth
+module _ (cells : List ℕ) (p : ℕ) where
+  pub fresh-formed : p ≤ cellsDepth → true ≡ wellFormed (freshWith cells p)
+  unfolding wellFormed linked freshLinks
+  fresh-formed h = rw (le-leb p cellsDepth h)
+
+  pub fresh-too-deep : cellsDepth < p → false ≡ wellFormed (freshWith cells p)
+  unfolding wellFormed
+  fresh-too-deep h = rw (lt-leb p cellsDepth h)
+
+-- no test both fails and holds
+pub clash : {A : Type 0} → false ≡ true → A
+clash e = let z : _≡_ {A = ℕ} 0 1 = ap (λ (b : Bool). pick b 1 0) e in absurd (omega arith)
+
+-- a quantum is tested at both ends
+module _ (quantum : ℕ) where
+  pub quantum-good : 1 ≤ quantum → quantum ≤ mostQuantum → true ≡ both (leb 1 quantum) (leb quantum mostQuantum)
+  quantum-good low high = rw (le-leb 1 quantum low, le-leb quantum mostQuantum high)
+
+  pub quantum-none : quantum < 1 → false ≡ both (leb 1 quantum) (leb quantum mostQuantum)
+  quantum-none h = rw (lt-leb 1 quantum h)
+
+  pub quantum-long : mostQuantum < quantum → false ≡ both (leb 1 quantum) (leb quantum mostQuantum)
+  quantum-long h = let some : 1 ≤ quantum = omega arith in rw (le-leb 1 quantum some, lt-leb quantum mostQuantum h)
 
 -- the same for four tasks
 module _ (mem : List ℕ) (tasks : Tasks) (quantum budget : ℕ) where

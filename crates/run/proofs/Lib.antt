@@ -19,6 +19,14 @@ mod Answered
 mod Rooms
 mod Drops
 mod CutOff
+-- elements by their places, and levels in rows
+mod Tabled
+mod Levels
+mod Filled
+mod Parted
+-- a whole machine in rows, and four of them
+mod Again
+mod Tasked
 -- the loop: where it stands, a round, and the arms of a round
 mod Loop
 mod Rounds
@@ -28,3 +36,4 @@ mod Entry
 -- a run of tasks: machines and kept numbers as tasks, and the loop of turns
 mod Pairs
 mod Turning
+mod Seated

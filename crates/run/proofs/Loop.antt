@@ -1,11 +1,11 @@
 -- Where the run's loop stands: what is left of the run from here is what the whole run is.
 use mathlib.Core.Path.{_≡_, ap, sym, _∙_, subst}
 use mathlib.Core.Bool.{Bool, true, false}
-use mathlib.Core.List.{List, map}
+use mathlib.Core.List.{List}
 use Prim.Native.Nat.{ℕ, suc, _+_, _-_, _*_, _≤_, _<_}
 use native.Mathlib.Omega.{arith}
 use lib.Dec.{leb, eqb, T, leb→le, eqb→eq}
-use lib.ListN.{length, length-map}
+use lib.ListN.{length}
 use Rattle.plain.specs.Choice.{pick, both}
 use Rattle.plain.specs.Laws.Choice.{both-parts, is-true}
 use Rattle.machine.specs.Limits.{memoryLength, mostBudget}
@@ -18,10 +18,6 @@ use Rattle.machine.specs.Laws.Kept.{Formed, formed, step-kept}
 use Rattle.machine.specs.Laws.Passed.{step-done}
 use Rattle.machine.specs.declared.Machine.{Machine}
 use Rattle.machine.specs.declared.Reach.{Reach}
-
--- an array of structs has as many elements as the list of their values
-pub length-mapped : (X Y : Type 0) (f : X → Y) (l : List X) (n : ℕ) → length (map f l) ≡ n → length l ≡ n
-length-mapped X Y f l n e = sym (length-map l f) ∙ e
 
 pub record Here (reach : Reach) (inTurns : Bool) (mem₀ : List ℕ) (m₀ : Machine) (budget : ℕ) (mem : List ℕ) (m : Machine) (n c : ℕ) : Type 0 where
   pub same : runFrom reach inTurns budget mem₀ m₀ 0 0 ≡ runFrom reach inTurns (budget - n) mem m n c

@@ -4,6 +4,7 @@ use mathlib.Core.Bool.{Bool, true, false}
 use mathlib.Core.List.{List}
 use Prim.Native.Nat.{ℕ, _+_, _-_, _*_, _%_, _≤_, _<_}
 use native.Mathlib.Omega.{arith}
+use borrow.Author.Tests.{eqb-true}
 use lib.Dec.{T}
 use lib.ListN.{length, getD, set, length-set}
 use Rattle.plain.specs.All.{All}
@@ -137,10 +138,13 @@ module _ {quantum budget : ℕ} {start : Between} where
       abbrev m : Machine
       m = getD machines t noMachine
 
-      good-here : GoodTask (taskOf m (getD kept t 0))
+      pub good-here : GoodTask (taskOf m (getD kept t 0))
       good-here =
           subst GoodTask (paired-at machines kept t as-many)
           (all-at GoodTask (paired machines kept) (now .good) t noTask (omega (arith, paired-length machines kept (now .four-machines) (now .four-kept), one-of-four)))
+
+      pub is-ready : getD kept t 0 ≡ ready
+      is-ready = eqb-true (getD kept t 0) ready (ap isReady (sym (paired-at machines kept t as-many)) ∙ chosen .0)
 
       -- the turn, as the loop below has it
       module _ {length : ℕ} (el : length ≡ turnLength quantum (c .left .0)) where

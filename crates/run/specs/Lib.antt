@@ -8,7 +8,11 @@ pub mod Accesses
 pub mod Operations
 -- what the registers become
 pub mod Registers
+-- a machine with a row of numbers for each level
+pub mod Rows
 -- what a run of tasks counts
 pub mod Clocks
 -- what the functions on the parameter cells and the fetch promise
 pub mod Promises
+-- what the loop asks and promises
+pub mod Rounds

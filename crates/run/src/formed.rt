@@ -3,11 +3,11 @@ use machine::Machine;
 use machine::Tasks;
 ghost use mathlib.Core.Path.{_≡_};
 ghost use mathlib.Core.Bool.{true};
-ghost use lib.Dec.{leb};
-ghost use Rattle.plain.specs.Choice.{both};
-ghost use Rattle.machine.specs.Limits.{mostQuantum};
+ghost use mathlib.Core.List.{List};
+ghost use Prim.Native.Nat.{ℕ};
+ghost use lib.ListN as list;
 ghost use Rattle.machine.specs.State.{wellFormed, Whole};
-ghost use Rattle.machine.specs.Tasks.{taskOf, tasksIn, canKeep, taskGood, allGood, AllWhole};
+ghost use Rattle.machine.specs.Tasks.{taskOf, tasksIn, canKeep, taskGood, allGood, AllWhole, tasksAcceptable};
 
 pub(crate) fn well_formed(machine: Machine) -> bool
     ensures { λ b. ⌜ b ≡ wellFormed machine ⌝ }
@@ -20,16 +20,6 @@ pub(crate) fn well_formed(machine: Machine) -> bool
     }
     let links = machine.links;
     links::well_formed(links)
-}
-
-// From 1 to 1,000 steps.
-pub(crate) fn quantum(steps: u32) -> bool
-    ensures { λ b. ⌜ b ≡ both (leb 1 steps) (leb steps mostQuantum) ⌝ }
-{
-    if steps < 1 {
-        return false;
-    }
-    steps <= Tasks::QUANTUM
 }
 
 // Ready, or an answer with which a task can leave.
@@ -58,7 +48,7 @@ fn task(machine: Machine, kept: usize) -> bool
 }
 
 // All four, ready or not.
-pub(crate) fn tasks(tasks: Tasks) -> bool
+fn tasks(tasks: Tasks) -> bool
     ensures { λ b. ⌜ (b ≡ allGood (tasksIn tasks)) × (b ≡ true → AllWhole (tasksIn tasks)) ⌝ }
 {
     let machines = tasks.machines;
@@ -71,4 +61,24 @@ pub(crate) fn tasks(tasks: Tasks) -> bool
         }
     }
     false
+}
+
+// What a run of tasks takes, in one function, so that one way leads to the refusal: with a way for each test the compiler keeps more
+// at hand in every turn.
+pub(crate) fn tasks_acceptable(length: usize, four: Tasks, quantum: u32, budget: u32) -> bool
+    ensures { λ b. ⌜ ((mem : List ℕ) → list.length mem ≡ length → b ≡ tasksAcceptable mem (tasksIn four) quantum budget) × (b ≡ true → AllWhole (tasksIn four)) ⌝ }
+{
+    if length != Machine::MEMORY {
+        return false;
+    }
+    if Machine::BUDGET < budget {
+        return false;
+    }
+    if quantum < 1 {
+        return false;
+    }
+    if Tasks::QUANTUM < quantum {
+        return false;
+    }
+    tasks(four)
 }

@@ -1,6 +1,7 @@
 // The run: instructions carried out one after another under a budget, proved to be what the machine's definition says.
 
 mod access;
+mod alone;
 mod cells;
 mod checks;
 mod dispatch;
@@ -8,31 +9,26 @@ mod fetch;
 mod formed;
 mod jumps;
 mod leave;
+mod linked;
 mod memory;
+mod parts;
 mod price;
 mod round;
 mod tally;
+mod taskrows;
 mod ticks;
 mod turns;
-mod view;
 
 use machine::Cycles;
 use machine::Machine;
 use machine::Ran;
 use machine::RanTasks;
-use machine::Reach;
 use machine::Steps;
 use machine::Tasks;
 ghost use mathlib.Core.Path.{_≡_};
 ghost use Rattle.machine.specs.Run.{runOf, afterOf};
 ghost use Rattle.machine.specs.Tasks.{RunsTasks, tasksIn, tasksAfterOf};
-
-// A machine that is alone may touch all of memory.
-const ALONE: Reach = Reach {
-    shared: Machine::MEMORY,
-    own: 0,
-    end: 0,
-};
+ghost use Rattle.machine.specs.State.{freshWith};
 
 // Runs a machine on a lent memory of any length, under a budget of any number of steps. Memory of another length than
 // 32,768, a budget above 1,000,000 or a state that is not well formed answers 2 and alters nothing.
@@ -40,15 +36,31 @@ pub fn run(mem: &mut [u8], machine: Machine, budget: u32) -> Ran
     ensures { λ ran. ⌜ afterOf (now (mem .exit)) ran ≡ runOf (now (mem .entry)) machine budget ⌝ }
 {
     if mem.len() != Machine::MEMORY {
-        return round::ended(2, Steps(0), Cycles(0), machine);
+        return alone::ended(2, Steps(0), Cycles(0), machine);
     }
     if Machine::BUDGET < budget {
-        return round::ended(2, Steps(0), Cycles(0), machine);
+        return alone::ended(2, Steps(0), Cycles(0), machine);
     }
     if formed::well_formed(machine) {
-        return round::rounds(mem, machine, budget, ALONE, false);
+        return alone::any(mem, machine, budget);
     }
-    round::ended(2, Steps(0), Cycles(0), machine)
+    alone::ended(2, Steps(0), Cycles(0), machine)
+}
+
+// The same for a machine that is fresh but for its parameter cells, as an image spells it.
+pub fn run_fresh(mem: &mut [u8], cells: [u32; Machine::CELLS], p: usize, budget: u32) -> Ran
+    ensures { λ ran. ⌜ afterOf (now (mem .exit)) ran ≡ runOf (now (mem .entry)) (freshWith cells p) budget ⌝ }
+{
+    if mem.len() != Machine::MEMORY {
+        return alone::declined(cells, p);
+    }
+    if Machine::BUDGET < budget {
+        return alone::declined(cells, p);
+    }
+    if Machine::CELLS < p {
+        return alone::declined(cells, p);
+    }
+    alone::fresh(mem, cells, p, budget)
 }
 
 // Runs four tasks on a lent memory of any length, in turns of at most a quantum of steps, under a budget of any number of steps
@@ -57,16 +69,7 @@ pub fn run(mem: &mut [u8], machine: Machine, budget: u32) -> Ran
 pub fn run_tasks(mem: &mut [u8], tasks: Tasks, quantum: u32, budget: u32) -> RanTasks
     ensures { λ ran. ⌜ RunsTasks (now (mem .entry)) (tasksIn tasks) quantum budget (tasksAfterOf (now (mem .exit)) ran) ⌝ }
 {
-    if mem.len() != Machine::MEMORY {
-        return turns::ended(2, Steps(0), Cycles(0), tasks);
-    }
-    if Machine::BUDGET < budget {
-        return turns::ended(2, Steps(0), Cycles(0), tasks);
-    }
-    if !formed::quantum(quantum) {
-        return turns::ended(2, Steps(0), Cycles(0), tasks);
-    }
-    if formed::tasks(tasks) {
+    if formed::tasks_acceptable(mem.len(), tasks, quantum, budget) {
         return turns::turns(mem, tasks, quantum, budget);
     }
     turns::ended(2, Steps(0), Cycles(0), tasks)
@@ -129,6 +132,16 @@ struct Registers {
     cycles: Cycles,
     answer: u32,
     unspent: Steps,
+}
+
+// What a machine keeps between two turns beside its arrays: P, R, S, E, the program counter and the flag.
+struct Pointers {
+    p: usize,
+    r: usize,
+    s: usize,
+    e: usize,
+    counter: u32,
+    flag: u32,
 }
 
 // Which task is asked first, what is left of the budget and the cycles so far; and, once the run of tasks is over, its answer

@@ -3,6 +3,7 @@ use crate::Checked;
 use crate::Done;
 use crate::Exit;
 use crate::Fetched;
+use crate::Pointers;
 use crate::Registers;
 use crate::Throw;
 use crate::Thrown;
@@ -11,94 +12,45 @@ use crate::checks;
 use crate::dispatch;
 use crate::fetch;
 use crate::leave;
+use crate::linked;
 use crate::memory;
 use crate::price;
 use crate::tally;
-use crate::view;
-use links::Frame;
-use links::Level;
-use links::Links;
-use machine::CYCLES;
 use machine::Cycles;
 use machine::Machine;
-use machine::Ran;
 use machine::Reach;
 use machine::Steps;
 use reach::Reached;
 use reach::Spot;
-ghost use mathlib.Core.Path.{_≡_};
-ghost use mathlib.Core.Bool.{true};
-ghost use mathlib.Core.List.{List};
-ghost use Prim.Native.Nat.{ℕ, _-_, _≤_};
-ghost use Rattle.machine.specs.Run.{acceptable, runFrom, afterOf};
-ghost use Rattle.machine.specs.Run as run;
-ghost use Rattle.run.specs.Machines.{ranOf};
-ghost use Rattle.run.specs.Promises.{Bounded};
-ghost use Rattle.run.specs.Registers.{machineIn};
+ghost use Rattle.run.specs.Rows.{inRows};
+ghost use Rattle.run.specs.Rounds.{Starts, Ends};
 
-pub(crate) fn ended(answer: u32, steps: Steps, cycles: Cycles, machine: Machine) -> Ran
-    ensures { λ r. ⌜ r ≡ ranOf answer steps cycles machine ⌝ }
+// Each round is one step: the instruction is fetched and its checks are made, and what refuses it ends the run; then the lent
+// arrays and the registers are changed in place. The loop's own test is the one way out: a run that no answer ends has spent
+// its budget, answer 1. The registers come in and go out field by field: handed over whole, the compiler keeps them in memory.
+pub(crate) fn rounds(
+    mem: &mut [u8],
+    cells: &mut [u32; Machine::CELLS],
+    returns: &mut [u32; Machine::RETURNS],
+    rows: &mut [[u32; linked::ROW]; linked::ROWS],
+    copies: &mut [usize; linked::COPIES],
+    costs: &[u32; 62],
+    start: Pointers,
+    left: u32,
+    reach: Reach,
+    turns: bool,
+) -> Registers
+    requires { ⌜ Starts reach (now mem) (inRows (now cells) (now returns) (now rows) (now copies) start) (now rows) (now copies) left (now costs) ⌝ }
+    ensures { λ g. ⌜ Ends reach turns (now (mem .entry)) (inRows (now (cells .entry)) (now (returns .entry)) (now (rows .entry)) (now (copies .entry)) start) left (now (mem .exit)) (now (cells .exit)) (now (returns .exit)) (now (rows .exit)) (now (copies .exit)) g ⌝ }
 {
-    Ran {
-        answer,
-        steps,
-        cycles,
-        machine,
-    }
-}
-
-// What a run hands back of its own arrays and registers.
-fn finished(
-    cells: [u32; Machine::CELLS],
-    returns: [u32; Machine::RETURNS],
-    frames: [Frame; Links::FRAMES],
-    levels: [Level; Links::LEVELS],
-    regs: Registers,
-    budget: u32,
-) -> Ran
-    requires { ⌜ regs .unspent .0 ≤ budget ⌝ }
-    ensures { λ ran. ⌜ ((mem : List ℕ) → afterOf mem ran ≡ run.ended (regs .answer) mem (machineIn cells returns frames levels regs) (budget - regs .unspent .0) (regs .cycles .0)) ⌝ }
-{
-    let links = Links {
-        returns,
-        r: regs.r,
-        frames,
-        s: regs.s,
-        levels,
-        e: regs.e,
-    };
-    let machine = Machine {
-        cells,
-        p: regs.p,
-        links,
-        counter: regs.counter,
-        flag: regs.flag,
-    };
-    let cycles = regs.cycles;
-    ended(regs.answer, Steps(budget - regs.unspent.0), cycles, machine)
-}
-
-// Each round is one step: the instruction is fetched and its checks are made, and what refuses it ends the run; then the
-// run's own arrays and its registers are changed in place. The loop's own test is the one way out: a run that no answer ends
-// has spent its budget, answer 1.
-pub(crate) fn rounds(mem: &mut [u8], start: Machine, budget: u32, reach: Reach, turns: bool) -> Ran
-    requires { ⌜ (acceptable (now mem) start budget ≡ true) × Bounded reach ⌝ }
-    ensures { λ ran. ⌜ afterOf (now (mem .exit)) ran ≡ runFrom reach turns budget (now (mem .entry)) start 0 0 ⌝ }
-{
-    let costs = CYCLES;
-    let links = start.links;
-    let mut cells = start.cells;
-    let mut returns = links.returns;
-    let mut frames = links.frames;
-    let mut levels = links.levels;
     let mut regs = Registers {
         p: start.p,
-        r: links.r,
-        s: links.s,
-        e: links.e,
+        r: start.r,
+        s: start.s,
+        e: start.e,
         counter: start.counter,
         flag: start.flag,
-        left: Steps(budget),
+        left: Steps(left),
         cycles: Cycles(0),
         answer: 1,
         unspent: Steps(0),
@@ -119,7 +71,7 @@ pub(crate) fn rounds(mem: &mut [u8], start: Machine, budget: u32, reach: Reach, 
         let e = regs.e;
         // BEQ and BRA stand before the match: the fetch has told them from the others already
         if 0x7F < code {
-            let done = dispatch::branches(code, operand, next, &mut cells, p, regs.flag);
+            let done = dispatch::branches(code, operand, next, cells, p, regs.flag);
             let Done::Went(stack) = done else {
                 regs = leave::by_done(regs, done);
                 continue;
@@ -127,7 +79,7 @@ pub(crate) fn rounds(mem: &mut [u8], start: Machine, budget: u32, reach: Reach, 
             regs.p = stack.p;
             regs.flag = stack.flag;
             regs.counter = stack.counter;
-            regs = tally::counted(regs, price::price(&costs, code));
+            regs = tally::counted(regs, price::price(costs, code));
             continue;
         }
         match code {
@@ -142,7 +94,7 @@ pub(crate) fn rounds(mem: &mut [u8], start: Machine, budget: u32, reach: Reach, 
                 regs.p = p - 1;
                 regs.r = r + 1;
                 regs.counter = next;
-                regs = tally::counted(regs, price::price(&costs, code));
+                regs = tally::counted(regs, price::price(costs, code));
             }
             // R@ ( -- x )
             0x08 => {
@@ -154,7 +106,7 @@ pub(crate) fn rounds(mem: &mut [u8], start: Machine, budget: u32, reach: Reach, 
                 cells[p] = returns[r - 1];
                 regs.p = p + 1;
                 regs.counter = next;
-                regs = tally::counted(regs, price::price(&costs, code));
+                regs = tally::counted(regs, price::price(costs, code));
             }
             // R> ( -- x ) drops what it empties
             0x09 => {
@@ -163,16 +115,14 @@ pub(crate) fn rounds(mem: &mut [u8], start: Machine, budget: u32, reach: Reach, 
                     regs = leave::by_check(regs, checked);
                     continue;
                 };
-                let frame = frames[s];
-                let level = levels[e];
-                let lower = checks::s_after_pop(r - 1, s, frame.r);
+                let lower = checks::s_after_pop(r - 1, s, linked::copy_of_r(copies, s));
                 cells[p] = returns[r - 1];
                 regs.p = p + 1;
                 regs.r = r - 1;
                 regs.s = lower;
-                regs.e = checks::e_after_pop(lower, s, e, level.s);
+                regs.e = checks::e_after_pop(lower, s, e, linked::copy_of_s(copies, e));
                 regs.counter = next;
-                regs = tally::counted(regs, price::price(&costs, code));
+                regs = tally::counted(regs, price::price(costs, code));
             }
             // CATCH ( address -- )
             0x0B => {
@@ -181,27 +131,23 @@ pub(crate) fn rounds(mem: &mut [u8], start: Machine, budget: u32, reach: Reach, 
                     regs = leave::by_check(regs, checked);
                     continue;
                 };
-                let below = levels[e];
-                let held = below.cells;
                 let to = cells[p - 1];
                 returns[r] = next;
-                frames[s + 1] = Frame {
-                    locals: [0u32; Frame::LOCALS],
-                    r,
-                    address: next,
-                };
-                levels[e + 1] = Level {
-                    cells: held,
+                linked::called(rows, copies, r, s, next);
+                linked::caught(
+                    rows,
+                    copies,
+                    e,
                     s,
-                    p: p - 1,
-                    address: std::num::wrapping_add_u32(next, 1),
-                };
+                    p - 1,
+                    std::num::wrapping_add_u32(next, 1),
+                );
                 regs.p = p - 1;
                 regs.r = r + 1;
                 regs.s = s + 1;
                 regs.e = e + 1;
                 regs.counter = to;
-                regs = tally::counted(regs, price::price(&costs, code));
+                regs = tally::counted(regs, price::price(costs, code));
             }
             // RESETSP
             0x0C => {
@@ -210,13 +156,13 @@ pub(crate) fn rounds(mem: &mut [u8], start: Machine, budget: u32, reach: Reach, 
                 regs.s = 0;
                 regs.e = 0;
                 regs.counter = next;
-                regs = tally::counted(regs, price::price(&costs, code));
+                regs = tally::counted(regs, price::price(costs, code));
                 // on its own way to the next round: else the compiler sets four zeros before every jump
                 continue;
             }
             // THROW ( 0 -- ) or ( .. n -- .. n )
             0x0D => {
-                let thrown = checks::can_throw(&cells, p, e);
+                let thrown = checks::can_throw(cells, p, e);
                 let Thrown::Found(throw) = thrown else {
                     regs = leave::by_throw(regs, thrown);
                     continue;
@@ -229,23 +175,21 @@ pub(crate) fn rounds(mem: &mut [u8], start: Machine, budget: u32, reach: Reach, 
                         regs = tally::counted(regs, 1);
                     }
                     Throw::Code(n) => {
-                        let level = levels[e];
-                        let kept = level.s;
-                        let frame = frames[kept + 1];
-                        let at = level.p;
+                        let kept = linked::copy_of_s(copies, e);
+                        let at = linked::copy_of_p(copies, e);
                         cells[at] = n;
                         regs.p = at + 1;
-                        regs.r = frame.r;
+                        regs.r = linked::copy_of_r(copies, kept + 1);
                         regs.s = kept;
                         regs.e = e - 1;
-                        regs.counter = level.address;
-                        regs = tally::counted(regs, price::price(&costs, code));
+                        regs.counter = linked::throw_address(rows, e);
+                        regs = tally::counted(regs, price::price(costs, code));
                     }
                 }
             }
             // FETCH.L, FETCH.W, FETCH.B ( address -- value )
             0x2D | 0x2F | 0x31 => {
-                let reached = access::reach(&cells, reach, 1, code, p);
+                let reached = access::reach(cells, reach, 1, code, p);
                 let Reached::At(spot) = reached else {
                     regs = leave::by_reach(regs, reached);
                     continue;
@@ -254,30 +198,28 @@ pub(crate) fn rounds(mem: &mut [u8], start: Machine, budget: u32, reach: Reach, 
                     Spot::Memory(at) => {
                         cells[p - 1] = memory::read_number(mem, at, code);
                         regs.counter = next;
-                        regs = tally::counted(regs, price::price(&costs, code));
+                        regs = tally::counted(regs, price::price(costs, code));
                     }
                     Spot::Own(at) => {
                         cells[p - 1] = memory::read_number(mem, at, code);
                         regs.counter = next;
-                        regs = tally::counted(regs, price::price(&costs, code));
+                        regs = tally::counted(regs, price::price(costs, code));
                     }
                     Spot::Local(k) => {
-                        let frame = frames[s];
-                        cells[p - 1] = view::local(frame, k);
+                        cells[p - 1] = linked::local(rows, s, k);
                         regs.counter = next;
-                        regs = tally::counted(regs, price::price(&costs, code));
+                        regs = tally::counted(regs, price::price(costs, code));
                     }
                     Spot::Cell(k) => {
-                        let level = levels[e];
-                        cells[p - 1] = view::cell(level, k);
+                        cells[p - 1] = linked::cell(rows, e, k);
                         regs.counter = next;
-                        regs = tally::counted(regs, price::price(&costs, code));
+                        regs = tally::counted(regs, price::price(costs, code));
                     }
                 }
             }
             // STORE.L, STORE.W, STORE.B ( value address -- )
             0x2E | 0x30 | 0x32 => {
-                let reached = access::reach(&cells, reach, 2, code, p);
+                let reached = access::reach(cells, reach, 2, code, p);
                 let Reached::At(spot) = reached else {
                     regs = leave::by_reach(regs, reached);
                     continue;
@@ -287,27 +229,25 @@ pub(crate) fn rounds(mem: &mut [u8], start: Machine, budget: u32, reach: Reach, 
                         memory::write_number(mem, at, code, cells[p - 2]);
                         regs.p = p - 2;
                         regs.counter = next;
-                        regs = tally::counted(regs, price::price(&costs, code));
+                        regs = tally::counted(regs, price::price(costs, code));
                     }
                     Spot::Own(at) => {
                         memory::write_own(mem, reach.own, reach.end, at, code, cells[p - 2]);
                         regs.p = p - 2;
                         regs.counter = next;
-                        regs = tally::counted(regs, price::price(&costs, code));
+                        regs = tally::counted(regs, price::price(costs, code));
                     }
                     Spot::Local(k) => {
-                        let frame = frames[s];
-                        frames[s] = view::with_local(frame, k, cells[p - 2]);
+                        linked::set_local(rows, s, k, cells[p - 2]);
                         regs.p = p - 2;
                         regs.counter = next;
-                        regs = tally::counted(regs, price::price(&costs, code));
+                        regs = tally::counted(regs, price::price(costs, code));
                     }
                     Spot::Cell(k) => {
-                        let level = levels[e];
-                        levels[e] = view::with_cell(level, k, cells[p - 2]);
+                        linked::set_cell(rows, e, k, cells[p - 2]);
                         regs.p = p - 2;
                         regs.counter = next;
-                        regs = tally::counted(regs, price::price(&costs, code));
+                        regs = tally::counted(regs, price::price(costs, code));
                     }
                 }
             }
@@ -319,15 +259,11 @@ pub(crate) fn rounds(mem: &mut [u8], start: Machine, budget: u32, reach: Reach, 
                     continue;
                 };
                 returns[r] = next;
-                frames[s + 1] = Frame {
-                    locals: [0u32; Frame::LOCALS],
-                    r,
-                    address: next,
-                };
+                linked::called(rows, copies, r, s, next);
                 regs.r = r + 1;
                 regs.s = s + 1;
                 regs.counter = operand;
-                regs = tally::counted(regs, price::price(&costs, code));
+                regs = tally::counted(regs, price::price(costs, code));
             }
             // JSR ( address -- )
             0x39 => {
@@ -338,16 +274,12 @@ pub(crate) fn rounds(mem: &mut [u8], start: Machine, budget: u32, reach: Reach, 
                 };
                 let to = cells[p - 1];
                 returns[r] = next;
-                frames[s + 1] = Frame {
-                    locals: [0u32; Frame::LOCALS],
-                    r,
-                    address: next,
-                };
+                linked::called(rows, copies, r, s, next);
                 regs.p = p - 1;
                 regs.r = r + 1;
                 regs.s = s + 1;
                 regs.counter = to;
-                regs = tally::counted(regs, price::price(&costs, code));
+                regs = tally::counted(regs, price::price(costs, code));
             }
             // EXIT
             0x3D => {
@@ -356,23 +288,21 @@ pub(crate) fn rounds(mem: &mut [u8], start: Machine, budget: u32, reach: Reach, 
                     regs = leave::by_exit(regs, exit);
                     continue;
                 };
-                let frame = frames[s];
-                let level = levels[e];
                 regs.s = s - 1;
-                regs.e = checks::e_after_drop(s - 1, e, level.s);
-                regs.r = frame.r;
-                regs.counter = frame.address;
-                regs = tally::counted(regs, price::price(&costs, code));
+                regs.e = checks::e_after_drop(s - 1, e, linked::copy_of_s(copies, e));
+                regs.r = linked::copy_of_r(copies, s);
+                regs.counter = linked::return_address(rows, s);
+                regs = tally::counted(regs, price::price(costs, code));
             }
             // PAUSE is a NOP but that it may pass the turn; its one cycle stands outside the table
             0x3E => {
                 regs.counter = next;
-                regs = tally::counted(regs, price::price(&costs, code));
+                regs = tally::counted(regs, price::price(costs, code));
                 regs = tally::paused(regs, turns);
                 continue;
             }
             _ => {
-                let done = dispatch::on_cells(code, operand, next, &mut cells, p, regs.flag);
+                let done = dispatch::on_cells(code, operand, next, cells, p, regs.flag);
                 let Done::Went(stack) = done else {
                     regs = leave::by_done(regs, done);
                     continue;
@@ -380,9 +310,20 @@ pub(crate) fn rounds(mem: &mut [u8], start: Machine, budget: u32, reach: Reach, 
                 regs.p = stack.p;
                 regs.flag = stack.flag;
                 regs.counter = stack.counter;
-                regs = tally::counted(regs, price::price(&costs, code));
+                regs = tally::counted(regs, price::price(costs, code));
             }
         }
     }
-    finished(cells, returns, frames, levels, regs, budget)
+    Registers {
+        p: regs.p,
+        r: regs.r,
+        s: regs.s,
+        e: regs.e,
+        counter: regs.counter,
+        flag: regs.flag,
+        left: Steps(regs.left.0),
+        cycles: Cycles(regs.cycles.0),
+        answer: regs.answer,
+        unspent: Steps(regs.unspent.0),
+    }
 }

@@ -2,10 +2,12 @@
 use crate::Clock;
 use machine::Cycles;
 use machine::Steps;
+use machine::Tasks;
 ghost use mathlib.Core.Path.{_≡_};
 ghost use Prim.Native.Nat.{_+_, _*_, _<_, _≤_};
 ghost use Rattle.machine.specs.Limits.{mostBudget, tasksCount};
-ghost use Rattle.machine.specs.Tasks.{turnLength};
+ghost use lib.ListN.{getD, set};
+ghost use Rattle.machine.specs.Tasks.{ready, turnLength};
 ghost use Rattle.run.specs.Clocks.{turnedTo, idledTo};
 
 // A turn has at most the quantum, and at most what is left of the budget.
@@ -30,6 +32,17 @@ pub(crate) fn turned(clock: Clock, t: usize, steps: Steps, cycles: Cycles) -> Cl
     after.left = left;
     after.cycles = more;
     after
+}
+
+// A ready task keeps the answer of its turn. One that can go on keeps the number that it has: the store is spared.
+pub(crate) fn keep(kept: &mut [usize; Tasks::COUNT], t: usize, answer: u32)
+    requires { ⌜ (t < tasksCount) × (getD (now kept) t 0 ≡ ready) ⌝ }
+    ensures { λ _. ⌜ now (kept .exit) ≡ set (now (kept .entry)) t answer ⌝ }
+{
+    let number = answer as usize;
+    if number != Tasks::READY {
+        kept[t] = number;
+    }
 }
 
 // No task is ready: nothing is left to spend, and what was not spent is kept.

@@ -1,8 +1,13 @@
 // A run of tasks: the next ready task has its turn, and then the next.
 use crate::Clock;
+use crate::linked;
+use crate::parts;
 use crate::round;
+use crate::taskrows;
 use crate::ticks;
+use machine::CYCLES;
 use machine::Cycles;
+use machine::Machine;
 use machine::RanTasks;
 use machine::Reach;
 use machine::Steps;
@@ -45,8 +50,14 @@ pub(crate) fn turns(mem: &mut [u8], tasks: Tasks, quantum: u32, budget: u32) -> 
     requires { ⌜ (tasksAcceptable (now mem) (tasksIn tasks) quantum budget ≡ true) × AllWhole (tasksIn tasks) ⌝ }
     ensures { λ ran. ⌜ TurnsFrom quantum (startOf (now (mem .entry)) (tasksIn tasks) budget) (tasksAfterOf (now (mem .exit)) ran) ⌝ }
 {
-    let mut machines = tasks.machines;
+    let costs = CYCLES;
+    let before = tasks.machines;
     let mut kept = tasks.kept;
+    let mut cells = [[0u32; Machine::CELLS]; Tasks::COUNT];
+    let mut returns = [[0u32; Machine::RETURNS]; Tasks::COUNT];
+    let mut rows = [[[0u32; linked::ROW]; linked::ROWS]; Tasks::COUNT];
+    let mut copies = [[0usize; linked::COPIES]; Tasks::COUNT];
+    let mut saved = taskrows::apart(before, &mut cells, &mut returns, &mut rows, &mut copies);
     let mut clock = Clock {
         from: 0,
         left: Steps(budget),
@@ -54,21 +65,33 @@ pub(crate) fn turns(mem: &mut [u8], tasks: Tasks, quantum: u32, budget: u32) -> 
         cycles: Cycles(0),
         answer: 1,
     };
+    // asked for at a turn's end, so that the compiler does not ask every task beforehand
+    let mut next = order::next_ready(&kept, clock.from);
     while 0 < clock.left.0 {
-        let next = order::next_ready(kept, clock.from);
         let Next::Task(t) = next else {
             clock = ticks::idle(clock);
             continue;
         };
         let length = ticks::turn_length(quantum, clock.left.0);
-        let ran = round::rounds(mem, machines[t], length, reach_of(t), true);
-        let machine = ran.machine;
-        let steps = ran.steps;
-        let cycles = ran.cycles;
-        machines[t] = machine;
-        kept[t] = ran.answer as usize;
-        clock = ticks::turned(clock, t, steps, cycles);
+        let after = round::rounds(
+            mem,
+            &mut cells[t],
+            &mut returns[t],
+            &mut rows[t],
+            &mut copies[t],
+            &costs,
+            saved[t],
+            length,
+            reach_of(t),
+            true,
+        );
+        saved[t] = parts::left_in(after);
+        ticks::keep(&mut kept, t, after.answer);
+        let cycles = after.cycles;
+        clock = ticks::turned(clock, t, Steps(length - after.unspent.0), cycles);
+        next = order::next_ready(&kept, clock.from);
     }
+    let machines = taskrows::whole(&cells, &returns, &rows, &copies, saved);
     let cycles = clock.cycles;
     let left = Tasks { machines, kept };
     ended(clock.answer, Steps(budget - clock.unspent.0), cycles, left)

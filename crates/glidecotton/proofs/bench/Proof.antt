@@ -1,4 +1,4 @@
--- Made by .ci/named from bench.rules: 4c5c0aa2991c3a69 0c57b52c955e4088
+-- Made by .ci/named from bench.rules: fd97288b7344df19 6761289e3ec5d94f
 -- Each way out hands what the called functions ensure to its law.
 use Rattle.glidecotton.proofs.Steps.{no-text, refusal-text, run-text}
 use borrow.Author.Needs.{needs}
@@ -32,8 +32,8 @@ returns-2 c = refusal-text (c .before .before .before .before .before .before .b
 enum-told : tie.Need-enum-told
 enum-told c = search needs
 
-run-requires : tie.Need-run-requires
-run-requires c κs = search needs
+run-fresh-requires : tie.Need-run-fresh-requires
+run-fresh-requires c κs = search needs
 
 report-requires : tie.Need-report-requires
 report-requires c κs = search needs
@@ -45,7 +45,7 @@ same-length-5 : tie.Need-same-length-5
 same-length-5 c = search needs
 
 returns-3 : tie.Need-returns-3
-returns-3 c = run-text (c .before .before .before .before .before .before .before .before .before .before .before .before .before .before .before .before .before .before .args .image .now) (c .before .before .before .before .before .before .before .before .before .before .before .before .before .before .before .before .before .before .args .memory .now) (c .before .before .before .before .before .before .before .before .before .before .before .before .before .before .before .before .before .before .args .out .now) _ _ (c .before .before .before .before .before .before .before .before .before .before .before .before .before .read .ensures) _ _ (c .before .before .before .before .before .before .before .before .before .enum-told .given .1) (c .before .before .before .before .before .before .run .ensures) (c .before .before .report .ensures)
+returns-3 c = run-text (c .before .before .before .before .before .before .before .before .before .before .before .before .before .before .before .before .before .before .before .args .image .now) (c .before .before .before .before .before .before .before .before .before .before .before .before .before .before .before .before .before .before .before .args .memory .now) (c .before .before .before .before .before .before .before .before .before .before .before .before .before .before .before .before .before .before .before .args .out .now) _ _ (c .before .before .before .before .before .before .before .before .before .before .before .before .before .before .read .ensures) _ _ (c .before .before .before .before .before .before .before .before .before .before .enum-told .given .1) (c .before .before .before .before .before .before .run-fresh .ensures) (c .before .before .report .ensures)
 
 pub bench-spec : {M : Type 1} → statement M
 bench-spec =
@@ -60,7 +60,7 @@ bench-spec =
     same-length-3
     returns-2
     enum-told
-    run-requires
+    run-fresh-requires
     report-requires
     same-length-4
     same-length-5

@@ -1,4 +1,4 @@
--- Made by .ci/named from run.rules: 098eceebc08d00e4 40df662fca5bdf57
+-- Made by .ci/named from run.rules: 5e5bb1631a25efe0 d4f60caca8947b63
 -- Answer 2 is tested first, clause by clause; then the loop runs.
 use mathlib.Core.Bool.{true, false}
 use native.Mathlib.Omega.{arith}
@@ -23,14 +23,14 @@ returns-2 c = run-declined (c .before .before .before .before .args .mem .now) (
 well-formed-requires : tie.Need-well-formed-requires
 well-formed-requires c κs = search needs
 
-rounds-requires : tie.Need-rounds-requires
-rounds-requires c κs = ((judged (c .before .before .before .before .before .before .args .mem .now) (c .before .before .before .before .before .before .args .machine) (c .before .before .before .before .before .before .args .budget) (omega arith) (omega arith) (c .before .before .well-formed .result) (c .before .before .well-formed .ensures) true (c .before .if3 .taken)), record { shared-within = omega arith; end-within = omega arith })
+any-requires : tie.Need-any-requires
+any-requires c κs = (judged (c .before .before .before .before .before .before .args .mem .now) (c .before .before .before .before .before .before .args .machine) (c .before .before .before .before .before .before .args .budget) (omega arith) (omega arith) (c .before .before .well-formed .result) (c .before .before .well-formed .ensures) true (c .before .if3 .taken))
 
 same-length : tie.Need-same-length
 same-length c = search needs
 
 returns-3 : tie.Need-returns-3
-returns-3 c = taken (c .before .before .before .before .before .before .before .before .before .args .mem .now) (c .before .before .before .before .before .before .before .before .before .args .machine) (c .before .before .before .before .before .before .before .before .before .args .budget) (judged (c .before .before .before .before .before .before .before .before .before .args .mem .now) (c .before .before .before .before .before .before .before .before .before .args .machine) (c .before .before .before .before .before .before .before .before .before .args .budget) (omega arith) (omega arith) (c .before .before .before .before .before .well-formed .result) (c .before .before .before .before .before .well-formed .ensures) true (c .before .before .before .before .if3 .taken)) (afterOf (c .before .before .rounds .last .0) (c .before .before .rounds .result)) (c .before .before .rounds .ensures)
+returns-3 c = taken (c .before .before .before .before .before .before .before .before .before .args .mem .now) (c .before .before .before .before .before .before .before .before .before .args .machine) (c .before .before .before .before .before .before .before .before .before .args .budget) (judged (c .before .before .before .before .before .before .before .before .before .args .mem .now) (c .before .before .before .before .before .before .before .before .before .args .machine) (c .before .before .before .before .before .before .before .before .before .args .budget) (omega arith) (omega arith) (c .before .before .before .before .before .well-formed .result) (c .before .before .before .before .before .well-formed .ensures) true (c .before .before .before .before .if3 .taken)) (afterOf (c .before .before .any .last .0) (c .before .before .any .result)) (c .before .before .any .ensures)
 
 ended-requires-3 : tie.Need-ended-requires-3
 ended-requires-3 c κs = search needs
@@ -47,7 +47,7 @@ run-spec =
     ended-requires-2
     returns-2
     well-formed-requires
-    rounds-requires
+    any-requires
     same-length
     returns-3
     ended-requires-3

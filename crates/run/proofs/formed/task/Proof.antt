@@ -1,7 +1,7 @@
--- Made by .ci/named from task.rules: 49eed973abd059d4 14c81efd9552b2cf
+-- Made by .ci/named from task.rules: ad356672445ff6bf 8f1e2eddb0092b8a
 -- The state first, then the number; the lists are as long as the arrays.
 use mathlib.Core.Path.{sym, _∙_}
-use Rattle.run.proofs.Loop.{length-mapped}
+use Rattle.run.proofs.Filled.{length-mapped}
 use borrow.Author.Needs.{needs}
 use Rattle.run.proofs.formed.task.Statement.{statement}
 use Rattle.run.proofs.formed.task.Tie as tie

@@ -1,9 +1,9 @@
--- Made by .ci/named from tasks.rules: a9676c01f696e9a9 c0f3ad3409082b1f
+-- Made by .ci/named from tasks.rules: fe9087d7173da201 c425f624c037f660
 -- One after another; the last decides.
 use mathlib.Core.Path.{refl}
 use mathlib.Core.Bool.{false}
 use Rattle.run.proofs.Pairs.{first-bad, second-bad, third-bad, fourth-decides, four-whole}
-use Rattle.run.proofs.Loop.{length-mapped}
+use Rattle.run.proofs.Filled.{length-mapped}
 use Rattle.machine.specs.Laws.Clash.{clash}
 use borrow.Author.Needs.{needs}
 use Rattle.run.proofs.formed.tasks.Statement.{statement}

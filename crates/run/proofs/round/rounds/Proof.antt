@@ -1,24 +1,26 @@
--- Made by .ci/named from rounds.rules: 17859449c77b54ec 0dd1d6799127d77c
+-- Made by .ci/named from rounds.rules: 51123e1acf2cf599 748a504e555f174f
 -- The loop is the definition's run: each round is one step of `stepOf`, and what ends it is the definition's own.
 use mathlib.Core.Path.{_≡_, refl, ap, sym, _∙_}
 use mathlib.Core.Bool.{false}
 use mathlib.Core.Logic.{inl, inr}
-use Prim.Native.Nat.{ℕ, _<_}
+use Prim.Native.Nat.{ℕ, _-_, _<_}
 use native.Mathlib.Omega.{arith}
-use Rattle.links.specs.Actions.{noLocals}
 use Rattle.plain.specs.Answer.{refuses}
 use Rattle.machine.specs.Reach.{alone, isForeign}
-use Rattle.machine.specs.Codes.{table, codePAUSE, cycleTable}
+use Rattle.machine.specs.Codes.{codePAUSE, cycleTable}
 use Rattle.machine.specs.Fetch.{instructionAt}
 use Rattle.reach.specs.Spots.{widthOf}
 use Rattle.reach.specs.Spots.{saysReached}
 use Rattle.run.specs.Answers.{saysFetched, saysChecked, saysExit, saysThrown, saysDone}
 use Rattle.run.specs.Registers.{machineIn, haltedBy}
+use Rattle.run.specs.Rows.{framesIn, levelsIn, inRows, Laid}
+use Rattle.run.specs.Verdicts.{sAfterPop, eAfterDropOf, eAfterPop}
 use Rattle.reach.specs.declared.Reached.the-variants as reached
 use Rattle.run.specs.declared.Thrown.the-variants as thrown
 use Rattle.run.proofs.Answered.{told}
-use Rattle.run.proofs.Arms.{push-acts, copy-acts, pop-acts, catch-acts, reset-acts, throw-acts, exit-acts, call-acts, call-top-acts, fetch-acts, fetchedAs, store-acts, written-there, in-frame, in-level, cells-acts, cells-end, pause-is}
-use Rattle.run.proofs.Loop.{starts, length-mapped}
+use Rattle.run.proofs.Arms.{push-acts, copy-acts, pop-acts, catch-acts, reset-acts, throw-acts, exit-acts, call-acts, call-top-acts, fetch-acts, fetchedAs, store-acts, written-there, thrown-there, held-there, cells-acts, cells-end, pause-is}
+use Rattle.run.proofs.Levels.{caught-above}
+use Rattle.run.proofs.Loop.{starts}
 use Rattle.run.proofs.Rooms.{push-room, read-room, call-room, catch-room, exit-room, zero-room, code-room, memory-room, local-room, cell-room, own-room}
 use Rattle.run.proofs.Rounds.{Round, begins, Found, ends, goes, paused, fetch-ends, foreign-ends, halted-less}
 use borrow.Author.Needs.{needs}
@@ -26,17 +28,18 @@ use Rattle.run.proofs.round.rounds.Statement.{statement}
 use Rattle.run.proofs.round.rounds.Tie as tie
 
 abbrev Inv-loop : tie.InvT-loop
-Inv-loop mem₀ budget reach turns costs cells₀ returns₀ frames₀ levels₀ regs₀ mem cells returns frames levels regs =
-    Round reach turns mem₀ (machineIn cells₀ returns₀ frames₀ levels₀ regs₀) budget mem cells returns frames levels regs × (costs ≡ cycleTable)
+Inv-loop mem₀ cells₀ returns₀ rows₀ copies₀ costs left reach turns regs₀ mem cells returns rows copies regs =
+    Round reach turns mem₀ (machineIn cells₀ returns₀ (framesIn rows₀ copies₀) (levelsIn rows₀ copies₀) regs₀) left mem cells returns (framesIn rows copies) (levelsIn rows copies) regs ×
+    ((costs ≡ cycleTable) × Laid rows copies)
 
 abbrev μ-loop : tie.MeasureT-loop
-μ-loop mem₀ budget reach turns costs cells₀ returns₀ frames₀ levels₀ regs₀ mem cells returns frames levels regs = regs .left .0
+μ-loop mem₀ cells₀ returns₀ rows₀ copies₀ costs left reach turns regs₀ mem cells returns rows copies regs = regs .left .0
 
 abbrev loop-of : tie.After-known-told Inv-loop μ-loop → tie.At-loop Inv-loop μ-loop
 loop-of t = t .before .before .before .before .before .before .before .before .before .before
 
 abbrev start-of : tie.After-known-told Inv-loop μ-loop → tie.Start Inv-loop μ-loop
-start-of t = t .before .before .before .before .before .before .before .before .before .before .before .before .before .before .before .before .before
+start-of t = t .before .before .before .before .before .before .before .before .before .before .before .before
 
 -- none of its bytes is in another's part
 own : (t : tie.After-known-told Inv-loop μ-loop) → isForeign (instructionAt (start-of t .args .reach) (loop-of t .loop .mem) (loop-of t .loop .regs .counter) .bar) ≡ false
@@ -46,8 +49,9 @@ own t = sym (t .before .before .before .before .before .before .foreign .ensures
 found : (t : tie.After-known-told Inv-loop μ-loop) →
     let l = loop-of t .loop in
     let f = t .before .fetched .given .0 in
-    Found (start-of t .args .reach) (start-of t .args .turns) (start-of t .args .mem .now) (start-of t .args .start) (start-of t .args .budget)
-    (l .mem) (l .cells) (l .returns) (l .frames) (l .levels) (l .regs) (f .0) (f .1 .0) (f .1 .1 .0)
+    let a = start-of t .args in
+    Found (a .reach) (a .turns) (a .mem .now) (inRows (a .cells .now) (a .returns .now) (a .rows .now) (a .copies .now) (a .start)) (a .left)
+    (l .mem) (l .cells) (l .returns) (framesIn (l .rows) (l .copies)) (levelsIn (l .rows) (l .copies)) (l .regs) (f .0) (f .1 .0) (f .1 .1 .0)
 found t =
     record {
       round = loop-of t .loop .inv .0;
@@ -65,11 +69,10 @@ no-pause : {code : ℕ} → 0x7F < code → code ≡ codePAUSE → ⊥
 no-pause above h = omega arith
 
 loop-holds : tie.Need-loop-holds Inv-loop μ-loop
-unfolding cycleTable table
-loop-holds c = (begins refl refl refl refl (starts (c .before .before .before .before .before .before .args .reach) (c .before .before .before .before .before .before .args .turns) (c .before .before .before .before .before .before .args .mem .now) (c .before .before .before .before .before .before .args .start) (c .before .before .before .before .before .before .args .budget) (c .before .before .before .before .before .before .pre .0) (record { cells-long = search needs; shaped = record { returns-long = search needs; frames-long = search (needs, length-mapped); levels-long = search (needs, length-mapped) } })), refl)
+loop-holds c = (begins refl refl refl refl (starts (c .before .args .reach) (c .before .args .turns) (c .before .args .mem .now) _ (c .before .args .left) (c .before .pre .accepted) (c .before .pre .whole)), (c .before .pre .priced, c .before .pre .laid))
 
 foreign-requires : tie.Need-foreign-requires Inv-loop μ-loop
-foreign-requires c κs = ((c .before .before .before .loop .inv .0) .long, c .before .before .before .before .before .before .before .before .before .before .pre .1 .shared-within)
+foreign-requires c κs = ((c .before .before .before .loop .inv .0) .long, c .before .before .before .before .before .pre .bounded .shared-within)
 
 halted-requires : tie.Need-halted-requires Inv-loop μ-loop
 halted-requires c κs = search needs
@@ -78,7 +81,7 @@ loop-less : tie.Need-loop-less Inv-loop μ-loop
 loop-less c = halted-less {A = Unit {0}} (c .before .before .before .before .before .before .loop .regs) {said = refuses 17} (c .halted .ensures) refl (c .before .before .before .before .if1 .taken)
 
 loop-again : tie.Need-loop-again Inv-loop μ-loop
-loop-again c = (foreign-ends (c .before .before .before .before .before .before .loop .inv .0) (c .before .before .before .before .if1 .taken) (c .before .before .foreign .ensures) (c .before .if2 .taken) (c .halted .ensures), c .before .before .before .before .before .before .loop .inv .1)
+loop-again c = (foreign-ends (c .before .before .before .before .before .before .loop .inv .0) (c .before .before .before .before .if1 .taken) (c .before .before .foreign .ensures) (c .before .if2 .taken) (c .halted .ensures), (c .before .before .before .before .before .before .loop .inv .1))
 
 fetch-requires : tie.Need-fetch-requires Inv-loop μ-loop
 fetch-requires c κs = search needs
@@ -96,7 +99,7 @@ loop-less-2 : tie.Need-loop-less-2 Inv-loop μ-loop
 loop-less-2 c = halted-less (c .before .before .before .before .before .before .before .before .before .before .loop .regs) (c .by-fetch .ensures) (ap (λ f. saysFetched f alone) (c .before .enum-told .given .1)) (c .before .before .before .before .before .before .before .before .if1 .taken)
 
 loop-again-2 : tie.Need-loop-again-2 Inv-loop μ-loop
-loop-again-2 c = (fetch-ends (c .before .before .before .before .before .before .before .before .before .before .loop .inv .0) (c .before .before .before .before .before .before .before .before .if1 .taken) (c .before .before .before .fetch .ensures) (c .before .before .before .before .before .before .foreign .ensures) (c .before .before .before .before .before .if2 .left) (ap (λ f. saysFetched f (c .before .before .before .before .before .before .before .before .before .before .before .before .before .before .before .before .before .args .reach)) (c .before .enum-told .given .1)) (c .by-fetch .ensures ∙ ap (λ a. haltedBy a (c .before .before .before .before .before .before .before .before .before .before .loop .regs)) (ap (λ f. saysFetched f alone) (c .before .enum-told .given .1))), c .before .before .before .before .before .before .before .before .before .before .loop .inv .1)
+loop-again-2 c = (fetch-ends (c .before .before .before .before .before .before .before .before .before .before .loop .inv .0) (c .before .before .before .before .before .before .before .before .if1 .taken) (c .before .before .before .fetch .ensures) (c .before .before .before .before .before .before .foreign .ensures) (c .before .before .before .before .before .if2 .left) (ap (λ f. saysFetched f (c .before .before .before .before .before .before .before .before .before .before .before .before .args .reach)) (c .before .enum-told .given .1)) (c .by-fetch .ensures ∙ ap (λ a. haltedBy a (c .before .before .before .before .before .before .before .before .before .before .loop .regs)) (ap (λ f. saysFetched f alone) (c .before .enum-told .given .1))), (c .before .before .before .before .before .before .before .before .before .before .loop .inv .1))
 
 branches-requires : tie.Need-branches-requires Inv-loop μ-loop
 branches-requires c κs = search needs
@@ -114,19 +117,19 @@ loop-less-3 : tie.Need-loop-less-3 Inv-loop μ-loop
 loop-less-3 c = halted-less (c .before .before .before .before .before .before .before .before .before .before .before .before .before .before .before .before .loop .regs) (c .by-done .ensures) (ap saysDone (c .before .enum-told2 .given .1)) ((found (c .before .before .before .before .before .before)) .less)
 
 loop-again-3 : tie.Need-loop-again-3 Inv-loop μ-loop
-loop-again-3 c = (cells-end (found (c .before .before .before .before .before .before)) (branches-on (c .before .before .before .before .before .if3 .taken)) (no-pause (c .before .before .before .before .before .if3 .taken)) (c .before .before .before .branches .ensures) (ap saysDone (c .before .enum-told2 .given .1)) (c .by-done .ensures), c .before .before .before .before .before .before .before .before .before .before .before .before .before .before .before .before .loop .inv .1)
+loop-again-3 c = (cells-end (found (c .before .before .before .before .before .before)) (branches-on (c .before .before .before .before .before .if3 .taken)) (no-pause (c .before .before .before .before .before .if3 .taken)) (c .before .before .before .branches .ensures) (ap saysDone (c .before .enum-told2 .given .1)) (c .by-done .ensures), (c .before .before .before .before .before .before .before .before .before .before .before .before .before .before .before .before .loop .inv .1))
 
 price-requires : tie.Need-price-requires Inv-loop μ-loop
-price-requires c κs = search needs
+price-requires c κs = c .before .before .before .before .before .before .before .before .before .before .before .before .before .before .before .before .loop .inv .1 .0
 
 counted-requires : tie.Need-counted-requires Inv-loop μ-loop
-counted-requires c κs = ((found (c .before .before .before .before .before .before .before .before)) .less, ((omega (arith, (c .before .before .before .before .before .before .before .before .before .before .before .before .before .before .before .before .before .before .loop .inv .0) .priced, (c .before .before .before .before .before .before .before .before .before .before .before .before .before .before .before .before .before .before .loop .inv .0) .limit, (c .before .before .before .before .before .before .before .before .before .before .before .before .before .before .before .before .before .before .loop .inv .0) .left-within, (found (c .before .before .before .before .before .before .before .before)) .less)), c .price .ensures .1))
+counted-requires c κs = ((found (c .before .before .before .before .before .before .before)) .less, ((omega (arith, (c .before .before .before .before .before .before .before .before .before .before .before .before .before .before .before .before .before .loop .inv .0) .priced, (c .before .before .before .before .before .before .before .before .before .before .before .before .before .before .before .before .before .loop .inv .0) .limit, (c .before .before .before .before .before .before .before .before .before .before .before .before .before .before .before .before .before .loop .inv .0) .left-within, (found (c .before .before .before .before .before .before .before)) .less)), c .price .ensures .1))
 
 loop-less-4 : tie.Need-loop-less-4 Inv-loop μ-loop
 loop-less-4 c = omega (arith, c .counted .ensures .1)
 
 loop-again-4 : tie.Need-loop-again-4 Inv-loop μ-loop
-loop-again-4 c = (goes (found (c .before .before .before .before .before .before .before .before .before)) (cells-acts (found (c .before .before .before .before .before .before .before .before .before)) (branches-on (c .before .before .before .before .before .before .before .before .if3 .taken)) (no-pause (c .before .before .before .before .before .before .before .before .if3 .taken)) (c .before .before .before .before .before .before .branches .ensures)) (ap saysDone (c .before .before .before .before .done .given .1)) refl refl (c .before .price .ensures .0) (c .counted .ensures .0), c .before .before .before .before .before .before .before .before .before .before .before .before .before .before .before .before .before .before .before .loop .inv .1)
+loop-again-4 c = (goes (found (c .before .before .before .before .before .before .before .before)) (cells-acts (found (c .before .before .before .before .before .before .before .before)) (branches-on (c .before .before .before .before .before .before .before .if3 .taken)) (no-pause (c .before .before .before .before .before .before .before .if3 .taken)) (c .before .before .before .before .before .branches .ensures)) (ap saysDone (c .before .before .before .done .given .1)) refl refl (c .before .price .ensures .0) (c .counted .ensures .0), (c .before .before .before .before .before .before .before .before .before .before .before .before .before .before .before .before .before .before .loop .inv .1))
 
 can-push-requires : tie.Need-can-push-requires Inv-loop μ-loop
 can-push-requires c κs = search needs
@@ -144,7 +147,7 @@ loop-less-5 : tie.Need-loop-less-5 Inv-loop μ-loop
 loop-less-5 c = halted-less (c .before .before .before .before .before .before .before .before .before .before .before .before .before .before .before .before .loop .regs) (c .by-check .ensures) (ap saysChecked (c .before .enum-told4 .given .1)) ((found (c .before .before .before .before .before .before)) .less)
 
 loop-again-5 : tie.Need-loop-again-5 Inv-loop μ-loop
-loop-again-5 c = (ends (found (c .before .before .before .before .before .before)) (push-acts (found (c .before .before .before .before .before .before)) (c .before .before .before .before .match3 .keys1)) (told saysChecked (c .before .before .before .can-push .ensures) (c .before .enum-told4 .given .1)) (c .before .before .before .can-push .ensures) (c .by-check .ensures), c .before .before .before .before .before .before .before .before .before .before .before .before .before .before .before .before .loop .inv .1)
+loop-again-5 c = (ends (found (c .before .before .before .before .before .before)) (push-acts (found (c .before .before .before .before .before .before)) (c .before .before .before .before .match3 .keys1)) (told saysChecked (c .before .before .before .can-push .ensures) (c .before .enum-told4 .given .1)) (c .before .before .before .can-push .ensures) (c .by-check .ensures), (c .before .before .before .before .before .before .before .before .before .before .before .before .before .before .before .before .loop .inv .1))
 
 sub-returns : tie.Need-sub-returns Inv-loop μ-loop
 sub-returns c = omega (arith, push-room (told saysChecked (c .before .before .can-push .ensures) (c .enum-told3 .given .1)))
@@ -152,23 +155,23 @@ sub-returns c = omega (arith, push-room (told saysChecked (c .before .before .ca
 mul-returns : tie.Need-mul-returns Inv-loop μ-loop
 mul-returns c = omega (arith, push-room (told saysChecked (c .before .before .can-push .ensures) (c .enum-told3 .given .1)))
 
-array-read-returns : tie.Need-array-read-returns Inv-loop μ-loop
-array-read-returns c = omega (arith, push-room (told saysChecked (c .before .before .can-push .ensures) (c .enum-told3 .given .1)))
+element-copy-out-returns : tie.Need-element-copy-out-returns Inv-loop μ-loop
+element-copy-out-returns c = omega (arith, push-room (told saysChecked (c .before .before .can-push .ensures) (c .enum-told3 .given .1)))
 
 mul-returns-2 : tie.Need-mul-returns-2 Inv-loop μ-loop
-mul-returns-2 c = omega (arith, push-room (told saysChecked (c .before .before .can-push .ensures) (c .enum-told3 .given .1)))
+mul-returns-2 c = omega (arith, push-room (told saysChecked (c .before .before .before .can-push .ensures) (c .before .enum-told3 .given .1)))
 
-array-write-returns : tie.Need-array-write-returns Inv-loop μ-loop
-array-write-returns c = omega (arith, push-room (told saysChecked (c .before .before .can-push .ensures) (c .enum-told3 .given .1)))
+element-write-returns : tie.Need-element-write-returns Inv-loop μ-loop
+element-write-returns c = omega (arith, push-room (told saysChecked (c .before .before .before .can-push .ensures) (c .before .enum-told3 .given .1)))
 
 sub-regs : tie.Need-sub-regs Inv-loop μ-loop
-sub-regs c = omega (arith, push-room (told saysChecked (c .before .before .can-push .ensures) (c .enum-told3 .given .1)))
+sub-regs c = omega (arith, push-room (told saysChecked (c .before .before .before .can-push .ensures) (c .before .enum-told3 .given .1)))
 
 add-regs : tie.Need-add-regs Inv-loop μ-loop
-add-regs c = omega (arith, push-room (told saysChecked (c .before .before .can-push .ensures) (c .enum-told3 .given .1)))
+add-regs c = omega (arith, push-room (told saysChecked (c .before .before .before .can-push .ensures) (c .before .enum-told3 .given .1)))
 
 price-requires-2 : tie.Need-price-requires-2 Inv-loop μ-loop
-price-requires-2 c κs = search needs
+price-requires-2 c κs = c .before .before .before .before .before .before .before .before .before .before .before .before .before .before .before .before .loop .inv .1 .0
 
 counted-requires-2 : tie.Need-counted-requires-2 Inv-loop μ-loop
 counted-requires-2 c κs = ((found (c .before .before .before .before .before .before .before)) .less, ((omega (arith, (c .before .before .before .before .before .before .before .before .before .before .before .before .before .before .before .before .before .loop .inv .0) .priced, (c .before .before .before .before .before .before .before .before .before .before .before .before .before .before .before .before .before .loop .inv .0) .limit, (c .before .before .before .before .before .before .before .before .before .before .before .before .before .before .before .before .before .loop .inv .0) .left-within, (found (c .before .before .before .before .before .before .before)) .less)), c .price2 .ensures .1))
@@ -177,7 +180,7 @@ loop-less-6 : tie.Need-loop-less-6 Inv-loop μ-loop
 loop-less-6 c = omega (arith, c .counted2 .ensures .1)
 
 loop-again-6 : tie.Need-loop-again-6 Inv-loop μ-loop
-loop-again-6 c = (goes (found (c .before .before .before .before .before .before .before .before)) (push-acts (found (c .before .before .before .before .before .before .before .before)) (c .before .before .before .before .before .before .match3 .keys1)) (told saysChecked (c .before .before .before .before .before .can-push .ensures) (c .before .before .before .enum-told3 .given .1)) refl refl (c .before .price2 .ensures .0) (c .counted2 .ensures .0), c .before .before .before .before .before .before .before .before .before .before .before .before .before .before .before .before .before .before .loop .inv .1)
+loop-again-6 c = (goes (found (c .before .before .before .before .before .before .before .before)) (push-acts (found (c .before .before .before .before .before .before .before .before)) (c .before .before .before .before .before .before .match3 .keys1)) (told saysChecked (c .before .before .before .before .before .can-push .ensures) (c .before .before .before .enum-told3 .given .1)) refl refl (c .before .price2 .ensures .0) (c .counted2 .ensures .0), (c .before .before .before .before .before .before .before .before .before .before .before .before .before .before .before .before .before .before .loop .inv .1))
 
 can-read-requires : tie.Need-can-read-requires Inv-loop μ-loop
 can-read-requires c κs = search needs
@@ -195,7 +198,7 @@ loop-less-7 : tie.Need-loop-less-7 Inv-loop μ-loop
 loop-less-7 c = halted-less (c .before .before .before .before .before .before .before .before .before .before .before .before .before .before .before .before .loop .regs) (c .by-check2 .ensures) (ap saysChecked (c .before .enum-told6 .given .1)) ((found (c .before .before .before .before .before .before)) .less)
 
 loop-again-7 : tie.Need-loop-again-7 Inv-loop μ-loop
-loop-again-7 c = (ends (found (c .before .before .before .before .before .before)) (copy-acts (found (c .before .before .before .before .before .before)) (c .before .before .before .before .match3 .keys2)) (told saysChecked (c .before .before .before .can-read .ensures) (c .before .enum-told6 .given .1)) (c .before .before .before .can-read .ensures) (c .by-check2 .ensures), c .before .before .before .before .before .before .before .before .before .before .before .before .before .before .before .before .loop .inv .1)
+loop-again-7 c = (ends (found (c .before .before .before .before .before .before)) (copy-acts (found (c .before .before .before .before .before .before)) (c .before .before .before .before .match3 .keys2)) (told saysChecked (c .before .before .before .can-read .ensures) (c .before .enum-told6 .given .1)) (c .before .before .before .can-read .ensures) (c .by-check2 .ensures), (c .before .before .before .before .before .before .before .before .before .before .before .before .before .before .before .before .loop .inv .1))
 
 sub-cells : tie.Need-sub-cells Inv-loop μ-loop
 sub-cells c = omega (arith, read-room (told saysChecked (c .before .before .can-read .ensures) (c .enum-told5 .given .1)))
@@ -203,20 +206,20 @@ sub-cells c = omega (arith, read-room (told saysChecked (c .before .before .can-
 mul-cells : tie.Need-mul-cells Inv-loop μ-loop
 mul-cells c = omega (arith, read-room (told saysChecked (c .before .before .can-read .ensures) (c .enum-told5 .given .1)))
 
-array-read-cells : tie.Need-array-read-cells Inv-loop μ-loop
-array-read-cells c = omega (arith, read-room (told saysChecked (c .before .before .can-read .ensures) (c .enum-told5 .given .1)))
+element-copy-out-cells : tie.Need-element-copy-out-cells Inv-loop μ-loop
+element-copy-out-cells c = omega (arith, read-room (told saysChecked (c .before .before .can-read .ensures) (c .enum-told5 .given .1)))
 
 mul-cells-2 : tie.Need-mul-cells-2 Inv-loop μ-loop
-mul-cells-2 c = omega (arith, read-room (told saysChecked (c .before .before .can-read .ensures) (c .enum-told5 .given .1)))
+mul-cells-2 c = omega (arith, read-room (told saysChecked (c .before .before .before .can-read .ensures) (c .before .enum-told5 .given .1)))
 
-array-write-cells : tie.Need-array-write-cells Inv-loop μ-loop
-array-write-cells c = omega (arith, read-room (told saysChecked (c .before .before .can-read .ensures) (c .enum-told5 .given .1)))
+element-write-cells : tie.Need-element-write-cells Inv-loop μ-loop
+element-write-cells c = omega (arith, read-room (told saysChecked (c .before .before .before .can-read .ensures) (c .before .enum-told5 .given .1)))
 
 add-regs-2 : tie.Need-add-regs-2 Inv-loop μ-loop
-add-regs-2 c = omega (arith, read-room (told saysChecked (c .before .before .can-read .ensures) (c .enum-told5 .given .1)))
+add-regs-2 c = omega (arith, read-room (told saysChecked (c .before .before .before .can-read .ensures) (c .before .enum-told5 .given .1)))
 
 price-requires-3 : tie.Need-price-requires-3 Inv-loop μ-loop
-price-requires-3 c κs = search needs
+price-requires-3 c κs = c .before .before .before .before .before .before .before .before .before .before .before .before .before .before .before .before .loop .inv .1 .0
 
 counted-requires-3 : tie.Need-counted-requires-3 Inv-loop μ-loop
 counted-requires-3 c κs = ((found (c .before .before .before .before .before .before .before)) .less, ((omega (arith, (c .before .before .before .before .before .before .before .before .before .before .before .before .before .before .before .before .before .loop .inv .0) .priced, (c .before .before .before .before .before .before .before .before .before .before .before .before .before .before .before .before .before .loop .inv .0) .limit, (c .before .before .before .before .before .before .before .before .before .before .before .before .before .before .before .before .before .loop .inv .0) .left-within, (found (c .before .before .before .before .before .before .before)) .less)), c .price3 .ensures .1))
@@ -225,7 +228,7 @@ loop-less-8 : tie.Need-loop-less-8 Inv-loop μ-loop
 loop-less-8 c = omega (arith, c .counted3 .ensures .1)
 
 loop-again-8 : tie.Need-loop-again-8 Inv-loop μ-loop
-loop-again-8 c = (goes (found (c .before .before .before .before .before .before .before .before)) (copy-acts (found (c .before .before .before .before .before .before .before .before)) (c .before .before .before .before .before .before .match3 .keys2)) (told saysChecked (c .before .before .before .before .before .can-read .ensures) (c .before .before .before .enum-told5 .given .1)) refl refl (c .before .price3 .ensures .0) (c .counted3 .ensures .0), c .before .before .before .before .before .before .before .before .before .before .before .before .before .before .before .before .before .before .loop .inv .1)
+loop-again-8 c = (goes (found (c .before .before .before .before .before .before .before .before)) (copy-acts (found (c .before .before .before .before .before .before .before .before)) (c .before .before .before .before .before .before .match3 .keys2)) (told saysChecked (c .before .before .before .before .before .can-read .ensures) (c .before .before .before .enum-told5 .given .1)) refl refl (c .before .price3 .ensures .0) (c .counted3 .ensures .0), (c .before .before .before .before .before .before .before .before .before .before .before .before .before .before .before .before .before .before .loop .inv .1))
 
 can-read-requires-2 : tie.Need-can-read-requires-2 Inv-loop μ-loop
 can-read-requires-2 c κs = search needs
@@ -243,22 +246,13 @@ loop-less-9 : tie.Need-loop-less-9 Inv-loop μ-loop
 loop-less-9 c = halted-less (c .before .before .before .before .before .before .before .before .before .before .before .before .before .before .before .before .loop .regs) (c .by-check3 .ensures) (ap saysChecked (c .before .enum-told8 .given .1)) ((found (c .before .before .before .before .before .before)) .less)
 
 loop-again-9 : tie.Need-loop-again-9 Inv-loop μ-loop
-loop-again-9 c = (ends (found (c .before .before .before .before .before .before)) (pop-acts (found (c .before .before .before .before .before .before)) (c .before .before .before .before .match3 .keys3) refl refl) (told saysChecked (c .before .before .before .can-read2 .ensures) (c .before .enum-told8 .given .1)) (c .before .before .before .can-read2 .ensures) (c .by-check3 .ensures), c .before .before .before .before .before .before .before .before .before .before .before .before .before .before .before .before .loop .inv .1)
-
-mul-frame : tie.Need-mul-frame Inv-loop μ-loop
-mul-frame c = omega (arith, read-room (told saysChecked (c .before .before .can-read2 .ensures) (c .enum-told7 .given .1)))
-
-array-copy-out-frame : tie.Need-array-copy-out-frame Inv-loop μ-loop
-array-copy-out-frame c = omega (arith, read-room (told saysChecked (c .before .before .can-read2 .ensures) (c .enum-told7 .given .1)))
-
-mul-level : tie.Need-mul-level Inv-loop μ-loop
-mul-level c = omega (arith, read-room (told saysChecked (c .before .before .before .can-read2 .ensures) (c .before .enum-told7 .given .1)))
-
-array-copy-out-level : tie.Need-array-copy-out-level Inv-loop μ-loop
-array-copy-out-level c = omega (arith, read-room (told saysChecked (c .before .before .before .can-read2 .ensures) (c .before .enum-told7 .given .1)))
+loop-again-9 c = (ends (found (c .before .before .before .before .before .before)) (pop-acts (found (c .before .before .before .before .before .before)) (c .before .before .before .before .match3 .keys3) refl refl) (told saysChecked (c .before .before .before .can-read2 .ensures) (c .before .enum-told8 .given .1)) (c .before .before .before .can-read2 .ensures) (c .by-check3 .ensures), (c .before .before .before .before .before .before .before .before .before .before .before .before .before .before .before .before .loop .inv .1))
 
 sub-s-after-pop : tie.Need-sub-s-after-pop Inv-loop μ-loop
-sub-s-after-pop c = omega (arith, read-room (told saysChecked (c .before .before .before .before .can-read2 .ensures) (c .before .before .enum-told7 .given .1)))
+sub-s-after-pop c = omega (arith, read-room (told saysChecked (c .before .before .can-read2 .ensures) (c .enum-told7 .given .1)))
+
+copy-of-r-requires : tie.Need-copy-of-r-requires Inv-loop μ-loop
+copy-of-r-requires c κs = omega (arith, (c .before .before .before .before .before .before .before .before .before .before .before .before .before .before .before .before .loop .inv .0) .s-within)
 
 s-after-pop-requires : tie.Need-s-after-pop-requires Inv-loop μ-loop
 s-after-pop-requires c κs = search needs
@@ -269,35 +263,38 @@ sub-cells-2 c = omega (arith, read-room (told saysChecked (c .before .before .be
 mul-cells-3 : tie.Need-mul-cells-3 Inv-loop μ-loop
 mul-cells-3 c = omega (arith, read-room (told saysChecked (c .before .before .before .before .before .can-read2 .ensures) (c .before .before .before .enum-told7 .given .1)))
 
-array-read-cells-2 : tie.Need-array-read-cells-2 Inv-loop μ-loop
-array-read-cells-2 c = omega (arith, read-room (told saysChecked (c .before .before .before .before .before .can-read2 .ensures) (c .before .before .before .enum-told7 .given .1)))
+element-copy-out-cells-2 : tie.Need-element-copy-out-cells-2 Inv-loop μ-loop
+element-copy-out-cells-2 c = omega (arith, read-room (told saysChecked (c .before .before .before .before .before .can-read2 .ensures) (c .before .before .before .enum-told7 .given .1)))
 
 mul-cells-4 : tie.Need-mul-cells-4 Inv-loop μ-loop
-mul-cells-4 c = omega (arith, read-room (told saysChecked (c .before .before .before .before .before .can-read2 .ensures) (c .before .before .before .enum-told7 .given .1)))
+mul-cells-4 c = omega (arith, read-room (told saysChecked (c .before .before .before .before .before .before .can-read2 .ensures) (c .before .before .before .before .enum-told7 .given .1)))
 
-array-write-cells-2 : tie.Need-array-write-cells-2 Inv-loop μ-loop
-array-write-cells-2 c = omega (arith, read-room (told saysChecked (c .before .before .before .before .before .can-read2 .ensures) (c .before .before .before .enum-told7 .given .1)))
+element-write-cells-2 : tie.Need-element-write-cells-2 Inv-loop μ-loop
+element-write-cells-2 c = omega (arith, read-room (told saysChecked (c .before .before .before .before .before .before .can-read2 .ensures) (c .before .before .before .before .enum-told7 .given .1)))
 
 add-regs-3 : tie.Need-add-regs-3 Inv-loop μ-loop
-add-regs-3 c = omega (arith, read-room (told saysChecked (c .before .before .before .before .before .can-read2 .ensures) (c .before .before .before .enum-told7 .given .1)))
+add-regs-3 c = omega (arith, read-room (told saysChecked (c .before .before .before .before .before .before .can-read2 .ensures) (c .before .before .before .before .enum-told7 .given .1)))
 
 sub-regs-2 : tie.Need-sub-regs-2 Inv-loop μ-loop
-sub-regs-2 c = omega (arith, read-room (told saysChecked (c .before .before .before .before .before .can-read2 .ensures) (c .before .before .before .enum-told7 .given .1)))
+sub-regs-2 c = omega (arith, read-room (told saysChecked (c .before .before .before .before .before .before .can-read2 .ensures) (c .before .before .before .before .enum-told7 .given .1)))
+
+copy-of-s-requires : tie.Need-copy-of-s-requires Inv-loop μ-loop
+copy-of-s-requires c κs = omega (arith, (c .before .before .before .before .before .before .before .before .before .before .before .before .before .before .before .before .before .before .before .before .loop .inv .0) .e-within)
 
 e-after-pop-requires : tie.Need-e-after-pop-requires Inv-loop μ-loop
 e-after-pop-requires c κs = search needs
 
 price-requires-4 : tie.Need-price-requires-4 Inv-loop μ-loop
-price-requires-4 c κs = search needs
+price-requires-4 c κs = c .before .before .before .before .before .before .before .before .before .before .before .before .before .before .before .before .before .before .before .before .before .before .loop .inv .1 .0
 
 counted-requires-4 : tie.Need-counted-requires-4 Inv-loop μ-loop
-counted-requires-4 c κs = ((found (c .before .before .before .before .before .before .before .before .before .before .before)) .less, ((omega (arith, (c .before .before .before .before .before .before .before .before .before .before .before .before .before .before .before .before .before .before .before .before .before .loop .inv .0) .priced, (c .before .before .before .before .before .before .before .before .before .before .before .before .before .before .before .before .before .before .before .before .before .loop .inv .0) .limit, (c .before .before .before .before .before .before .before .before .before .before .before .before .before .before .before .before .before .before .before .before .before .loop .inv .0) .left-within, (found (c .before .before .before .before .before .before .before .before .before .before .before)) .less)), c .price4 .ensures .1))
+counted-requires-4 c κs = ((found (c .before .before .before .before .before .before .before .before .before .before .before .before .before)) .less, ((omega (arith, (c .before .before .before .before .before .before .before .before .before .before .before .before .before .before .before .before .before .before .before .before .before .before .before .loop .inv .0) .priced, (c .before .before .before .before .before .before .before .before .before .before .before .before .before .before .before .before .before .before .before .before .before .before .before .loop .inv .0) .limit, (c .before .before .before .before .before .before .before .before .before .before .before .before .before .before .before .before .before .before .before .before .before .before .before .loop .inv .0) .left-within, (found (c .before .before .before .before .before .before .before .before .before .before .before .before .before)) .less)), c .price4 .ensures .1))
 
 loop-less-10 : tie.Need-loop-less-10 Inv-loop μ-loop
 loop-less-10 c = omega (arith, c .counted4 .ensures .1)
 
 loop-again-10 : tie.Need-loop-again-10 Inv-loop μ-loop
-loop-again-10 c = (goes (found (c .before .before .before .before .before .before .before .before .before .before .before .before)) (pop-acts (found (c .before .before .before .before .before .before .before .before .before .before .before .before)) (c .before .before .before .before .before .before .before .before .before .before .match3 .keys3) (c .before .before .before .before .s-after-pop .ensures) (c .before .before .before .e-after-pop .ensures)) (told saysChecked (c .before .before .before .before .before .before .before .before .before .can-read2 .ensures) (c .before .before .before .before .before .before .before .enum-told7 .given .1)) refl refl (c .before .price4 .ensures .0) (c .counted4 .ensures .0), c .before .before .before .before .before .before .before .before .before .before .before .before .before .before .before .before .before .before .before .before .before .before .loop .inv .1)
+loop-again-10 c = (goes (found (c .before .before .before .before .before .before .before .before .before .before .before .before .before .before)) (pop-acts (found (c .before .before .before .before .before .before .before .before .before .before .before .before .before .before)) (c .before .before .before .before .before .before .before .before .before .before .before .before .match3 .keys3) (c .before .before .before .before .before .before .s-after-pop .ensures ∙ ap (sAfterPop (c .before .before .before .before .before .before .before .before .before .before .before .before .before .before .before .before .before .before .before .before .before .before .before .before .loop .regs .r - 1) (c .before .before .before .before .before .before .before .before .before .before .before .before .before .before .before .before .before .before .before .before .before .before .before .before .loop .regs .s)) (c .before .before .before .before .before .before .before .copy-of-r .ensures (c .before .before .before .before .before .before .before .before .before .before .before .before .before .before .before .before .before .before .before .before .before .before .before .before .loop .rows))) (c .before .before .e-after-pop .ensures ∙ ap (eAfterPop (c .before .before .before .before .before .before .s-after-pop .result) (c .before .before .before .before .before .before .before .before .before .before .before .before .before .before .before .before .before .before .before .before .before .before .before .before .loop .regs .s) (c .before .before .before .before .before .before .before .before .before .before .before .before .before .before .before .before .before .before .before .before .before .before .before .before .loop .regs .e)) (c .before .before .before .copy-of-s .ensures (c .before .before .before .before .before .before .before .before .before .before .before .before .before .before .before .before .before .before .before .before .before .before .before .before .loop .rows)))) (told saysChecked (c .before .before .before .before .before .before .before .before .before .before .before .can-read2 .ensures) (c .before .before .before .before .before .before .before .before .before .enum-told7 .given .1)) refl refl (c .before .price4 .ensures .0) (c .counted4 .ensures .0), (c .before .before .before .before .before .before .before .before .before .before .before .before .before .before .before .before .before .before .before .before .before .before .before .before .loop .inv .1))
 
 can-catch-requires : tie.Need-can-catch-requires Inv-loop μ-loop
 can-catch-requires c κs = search needs
@@ -315,89 +312,70 @@ loop-less-11 : tie.Need-loop-less-11 Inv-loop μ-loop
 loop-less-11 c = halted-less (c .before .before .before .before .before .before .before .before .before .before .before .before .before .before .before .before .loop .regs) (c .by-check4 .ensures) (ap saysChecked (c .before .enum-told10 .given .1)) ((found (c .before .before .before .before .before .before)) .less)
 
 loop-again-11 : tie.Need-loop-again-11 Inv-loop μ-loop
-loop-again-11 c = (ends (found (c .before .before .before .before .before .before)) (catch-acts (found (c .before .before .before .before .before .before)) (c .before .before .before .before .match3 .keys4) refl) (told saysChecked (c .before .before .before .can-catch .ensures) (c .before .enum-told10 .given .1)) (c .before .before .before .can-catch .ensures) (c .by-check4 .ensures), c .before .before .before .before .before .before .before .before .before .before .before .before .before .before .before .before .loop .inv .1)
-
-mul-below : tie.Need-mul-below Inv-loop μ-loop
-mul-below c = omega (arith, catch-room (told saysChecked (c .before .before .can-catch .ensures) (c .enum-told9 .given .1)))
-
-array-copy-out-below : tie.Need-array-copy-out-below Inv-loop μ-loop
-array-copy-out-below c = omega (arith, catch-room (told saysChecked (c .before .before .can-catch .ensures) (c .enum-told9 .given .1)))
+loop-again-11 c = (ends (found (c .before .before .before .before .before .before)) (catch-acts (found (c .before .before .before .before .before .before)) (c .before .before .before .before .match3 .keys4) refl) (told saysChecked (c .before .before .before .can-catch .ensures) (c .before .enum-told10 .given .1)) (c .before .before .before .can-catch .ensures) (c .by-check4 .ensures), (c .before .before .before .before .before .before .before .before .before .before .before .before .before .before .before .before .loop .inv .1))
 
 sub-to : tie.Need-sub-to Inv-loop μ-loop
-sub-to c = omega (arith, catch-room (told saysChecked (c .before .before .before .before .can-catch .ensures) (c .before .before .enum-told9 .given .1)))
+sub-to c = omega (arith, catch-room (told saysChecked (c .before .before .can-catch .ensures) (c .enum-told9 .given .1)))
 
 mul-to : tie.Need-mul-to Inv-loop μ-loop
-mul-to c = omega (arith, catch-room (told saysChecked (c .before .before .before .before .can-catch .ensures) (c .before .before .enum-told9 .given .1)))
+mul-to c = omega (arith, catch-room (told saysChecked (c .before .before .can-catch .ensures) (c .enum-told9 .given .1)))
 
-array-read-to : tie.Need-array-read-to Inv-loop μ-loop
-array-read-to c = omega (arith, catch-room (told saysChecked (c .before .before .before .before .can-catch .ensures) (c .before .before .enum-told9 .given .1)))
+element-copy-out-to : tie.Need-element-copy-out-to Inv-loop μ-loop
+element-copy-out-to c = omega (arith, catch-room (told saysChecked (c .before .before .can-catch .ensures) (c .enum-told9 .given .1)))
 
 mul-returns-3 : tie.Need-mul-returns-3 Inv-loop μ-loop
-mul-returns-3 c = omega (arith, catch-room (told saysChecked (c .before .before .before .before .can-catch .ensures) (c .before .before .enum-told9 .given .1)))
+mul-returns-3 c = omega (arith, catch-room (told saysChecked (c .before .before .before .can-catch .ensures) (c .before .enum-told9 .given .1)))
 
-array-write-returns-2 : tie.Need-array-write-returns-2 Inv-loop μ-loop
-array-write-returns-2 c = omega (arith, catch-room (told saysChecked (c .before .before .before .before .can-catch .ensures) (c .before .before .enum-told9 .given .1)))
+element-write-returns-2 : tie.Need-element-write-returns-2 Inv-loop μ-loop
+element-write-returns-2 c = omega (arith, catch-room (told saysChecked (c .before .before .before .can-catch .ensures) (c .before .enum-told9 .given .1)))
 
-add-frames : tie.Need-add-frames Inv-loop μ-loop
-add-frames c = omega (arith, catch-room (told saysChecked (c .before .before .before .before .can-catch .ensures) (c .before .before .enum-told9 .given .1)))
+called-requires : tie.Need-called-requires Inv-loop μ-loop
+called-requires c κs = omega (arith, catch-room (told saysChecked (c .before .before .before .before .before .can-catch .ensures) (c .before .before .before .enum-told9 .given .1)))
 
-mul-frames : tie.Need-mul-frames Inv-loop μ-loop
-mul-frames c = omega (arith, catch-room (told saysChecked (c .before .before .before .before .can-catch .ensures) (c .before .before .enum-told9 .given .1)))
-
-array-set-from-frames : tie.Need-array-set-from-frames Inv-loop μ-loop
-array-set-from-frames c = omega (arith, catch-room (told saysChecked (c .before .before .before .before .can-catch .ensures) (c .before .before .enum-told9 .given .1)))
-
-sub-t114 : tie.Need-sub-t114 Inv-loop μ-loop
-sub-t114 c = omega (arith, catch-room (told saysChecked (c .before .before .before .before .can-catch .ensures) (c .before .before .enum-told9 .given .1)))
+sub-caught : tie.Need-sub-caught Inv-loop μ-loop
+sub-caught c = omega (arith, catch-room (told saysChecked (c .before .before .before .before .before .before .before .before .can-catch .ensures) (c .before .before .before .before .before .before .enum-told9 .given .1)))
 
 wrapping-add-u32-requires : tie.Need-wrapping-add-u32-requires Inv-loop μ-loop
 wrapping-add-u32-requires c κs = search needs
 
-add-levels : tie.Need-add-levels Inv-loop μ-loop
-add-levels c = omega (arith, catch-room (told saysChecked (c .before .before .before .before .before .can-catch .ensures) (c .before .before .before .enum-told9 .given .1)))
-
-mul-levels : tie.Need-mul-levels Inv-loop μ-loop
-mul-levels c = omega (arith, catch-room (told saysChecked (c .before .before .before .before .before .can-catch .ensures) (c .before .before .before .enum-told9 .given .1)))
-
-array-set-from-levels : tie.Need-array-set-from-levels Inv-loop μ-loop
-array-set-from-levels c = omega (arith, catch-room (told saysChecked (c .before .before .before .before .before .can-catch .ensures) (c .before .before .before .enum-told9 .given .1)))
+caught-requires : tie.Need-caught-requires Inv-loop μ-loop
+caught-requires c κs = omega (arith, catch-room (told saysChecked (c .before .before .before .before .before .before .before .before .before .can-catch .ensures) (c .before .before .before .before .before .before .before .enum-told9 .given .1)))
 
 sub-regs-3 : tie.Need-sub-regs-3 Inv-loop μ-loop
-sub-regs-3 c = omega (arith, catch-room (told saysChecked (c .before .before .before .before .before .can-catch .ensures) (c .before .before .before .enum-told9 .given .1)))
+sub-regs-3 c = omega (arith, catch-room (told saysChecked (c .before .before .before .before .before .before .before .before .before .before .can-catch .ensures) (c .before .before .before .before .before .before .before .before .enum-told9 .given .1)))
 
 add-regs-4 : tie.Need-add-regs-4 Inv-loop μ-loop
-add-regs-4 c = omega (arith, catch-room (told saysChecked (c .before .before .before .before .before .can-catch .ensures) (c .before .before .before .enum-told9 .given .1)))
+add-regs-4 c = omega (arith, catch-room (told saysChecked (c .before .before .before .before .before .before .before .before .before .before .can-catch .ensures) (c .before .before .before .before .before .before .before .before .enum-told9 .given .1)))
 
 add-regs-5 : tie.Need-add-regs-5 Inv-loop μ-loop
-add-regs-5 c = omega (arith, catch-room (told saysChecked (c .before .before .before .before .before .can-catch .ensures) (c .before .before .before .enum-told9 .given .1)))
+add-regs-5 c = omega (arith, catch-room (told saysChecked (c .before .before .before .before .before .before .before .before .before .before .can-catch .ensures) (c .before .before .before .before .before .before .before .before .enum-told9 .given .1)))
 
 add-regs-6 : tie.Need-add-regs-6 Inv-loop μ-loop
-add-regs-6 c = omega (arith, catch-room (told saysChecked (c .before .before .before .before .before .can-catch .ensures) (c .before .before .before .enum-told9 .given .1)))
+add-regs-6 c = omega (arith, catch-room (told saysChecked (c .before .before .before .before .before .before .before .before .before .before .can-catch .ensures) (c .before .before .before .before .before .before .before .before .enum-told9 .given .1)))
 
 price-requires-5 : tie.Need-price-requires-5 Inv-loop μ-loop
-price-requires-5 c κs = search needs
+price-requires-5 c κs = c .before .before .before .before .before .before .before .before .before .before .before .before .before .before .before .before .before .before .before .before .before .before .before .loop .inv .1 .0
 
 counted-requires-5 : tie.Need-counted-requires-5 Inv-loop μ-loop
-counted-requires-5 c κs = ((found (c .before .before .before .before .before .before .before .before .before .before)) .less, ((omega (arith, (c .before .before .before .before .before .before .before .before .before .before .before .before .before .before .before .before .before .before .before .before .loop .inv .0) .priced, (c .before .before .before .before .before .before .before .before .before .before .before .before .before .before .before .before .before .before .before .before .loop .inv .0) .limit, (c .before .before .before .before .before .before .before .before .before .before .before .before .before .before .before .before .before .before .before .before .loop .inv .0) .left-within, (found (c .before .before .before .before .before .before .before .before .before .before)) .less)), c .price5 .ensures .1))
+counted-requires-5 c κs = ((found (c .before .before .before .before .before .before .before .before .before .before .before .before .before .before)) .less, ((omega (arith, (c .before .before .before .before .before .before .before .before .before .before .before .before .before .before .before .before .before .before .before .before .before .before .before .before .loop .inv .0) .priced, (c .before .before .before .before .before .before .before .before .before .before .before .before .before .before .before .before .before .before .before .before .before .before .before .before .loop .inv .0) .limit, (c .before .before .before .before .before .before .before .before .before .before .before .before .before .before .before .before .before .before .before .before .before .before .before .before .loop .inv .0) .left-within, (found (c .before .before .before .before .before .before .before .before .before .before .before .before .before .before)) .less)), c .price5 .ensures .1))
 
 loop-less-12 : tie.Need-loop-less-12 Inv-loop μ-loop
 loop-less-12 c = omega (arith, c .counted5 .ensures .1)
 
 loop-again-12 : tie.Need-loop-again-12 Inv-loop μ-loop
-unfolding noLocals
-loop-again-12 c = (goes (found (c .before .before .before .before .before .before .before .before .before .before .before)) (catch-acts (found (c .before .before .before .before .before .before .before .before .before .before .before)) (c .before .before .before .before .before .before .before .before .before .match3 .keys4) (c .before .before .before .wrapping-add-u32 .ensures)) (told saysChecked (c .before .before .before .before .before .before .before .before .can-catch .ensures) (c .before .before .before .before .before .before .enum-told9 .given .1)) refl refl (c .before .price5 .ensures .0) (c .counted5 .ensures .0), c .before .before .before .before .before .before .before .before .before .before .before .before .before .before .before .before .before .before .before .before .before .loop .inv .1)
+loop-again-12 c = (goes (found (c .before .before .before .before .before .before .before .before .before .before .before .before .before .before .before)) (catch-acts (found (c .before .before .before .before .before .before .before .before .before .before .before .before .before .before .before)) (c .before .before .before .before .before .before .before .before .before .before .before .before .before .match3 .keys4) (c .before .before .before .wrapping-add-u32 .ensures)) (told saysChecked (c .before .before .before .before .before .before .before .before .before .before .before .before .can-catch .ensures) (c .before .before .before .before .before .before .before .before .before .before .enum-told9 .given .1)) (held-there (caught-above (c .before .before .before .before .before .before .before .before .before .before .before .before .before .before .before .before .before .before .before .before .before .before .before .before .before .loop .regs .e) (c .before .before .before .before .before .before .before .before .before .before .before .before .before .before .before .before .before .before .before .before .before .before .before .before .before .loop .regs .s) (c .before .before .before .before .before .before .before .before .before .before .before .before .before .before .before .before .before .before .before .before .before .before .before .before .before .loop .regs .p - 1) (c .before .before .before .wrapping-add-u32 .result) (c .before .before .before .before .before .before .called .ensures (c .before .before .before .before .before .before .before .before .before .before .before .before .before .before .before .before .before .before .before .before .before .before .before .before .before .loop .inv .1 .1)) (c .before .before .caught .ensures ((c .before .before .before .before .before .before .called .ensures (c .before .before .before .before .before .before .before .before .before .before .before .before .before .before .before .before .before .before .before .before .before .before .before .before .before .loop .inv .1 .1)) .laid)))) refl (c .before .price5 .ensures .0) (c .counted5 .ensures .0), (c .before .before .before .before .before .before .before .before .before .before .before .before .before .before .before .before .before .before .before .before .before .before .before .before .before .loop .inv .1 .0, (caught-above (c .before .before .before .before .before .before .before .before .before .before .before .before .before .before .before .before .before .before .before .before .before .before .before .before .before .loop .regs .e) (c .before .before .before .before .before .before .before .before .before .before .before .before .before .before .before .before .before .before .before .before .before .before .before .before .before .loop .regs .s) (c .before .before .before .before .before .before .before .before .before .before .before .before .before .before .before .before .before .before .before .before .before .before .before .before .before .loop .regs .p - 1) (c .before .before .before .wrapping-add-u32 .result) (c .before .before .before .before .before .before .called .ensures (c .before .before .before .before .before .before .before .before .before .before .before .before .before .before .before .before .before .before .before .before .before .before .before .before .before .loop .inv .1 .1)) (c .before .before .caught .ensures ((c .before .before .before .before .before .before .called .ensures (c .before .before .before .before .before .before .before .before .before .before .before .before .before .before .before .before .before .before .before .before .before .before .before .before .before .loop .inv .1 .1)) .laid))) .laid))
 
 price-requires-6 : tie.Need-price-requires-6 Inv-loop μ-loop
-price-requires-6 c κs = search needs
+price-requires-6 c κs = c .before .before .before .before .before .before .before .before .before .before .before .before .loop .inv .1 .0
 
 counted-requires-6 : tie.Need-counted-requires-6 Inv-loop μ-loop
-counted-requires-6 c κs = ((found (c .before .before .before .before)) .less, ((omega (arith, (c .before .before .before .before .before .before .before .before .before .before .before .before .before .before .loop .inv .0) .priced, (c .before .before .before .before .before .before .before .before .before .before .before .before .before .before .loop .inv .0) .limit, (c .before .before .before .before .before .before .before .before .before .before .before .before .before .before .loop .inv .0) .left-within, (found (c .before .before .before .before)) .less)), c .price6 .ensures .1))
+counted-requires-6 c κs = ((found (c .before .before .before)) .less, ((omega (arith, (c .before .before .before .before .before .before .before .before .before .before .before .before .before .loop .inv .0) .priced, (c .before .before .before .before .before .before .before .before .before .before .before .before .before .loop .inv .0) .limit, (c .before .before .before .before .before .before .before .before .before .before .before .before .before .loop .inv .0) .left-within, (found (c .before .before .before)) .less)), c .price6 .ensures .1))
 
 loop-less-13 : tie.Need-loop-less-13 Inv-loop μ-loop
 loop-less-13 c = omega (arith, c .counted6 .ensures .1)
 
 loop-again-13 : tie.Need-loop-again-13 Inv-loop μ-loop
-loop-again-13 c = (goes (found (c .before .before .before .before .before)) (reset-acts (found (c .before .before .before .before .before)) (c .before .before .before .match3 .keys5)) refl refl refl (c .before .price6 .ensures .0) (c .counted6 .ensures .0), c .before .before .before .before .before .before .before .before .before .before .before .before .before .before .before .loop .inv .1)
+loop-again-13 c = (goes (found (c .before .before .before .before)) (reset-acts (found (c .before .before .before .before)) (c .before .before .match3 .keys5)) refl refl refl (c .before .price6 .ensures .0) (c .counted6 .ensures .0), (c .before .before .before .before .before .before .before .before .before .before .before .before .before .before .loop .inv .1))
 
 can-throw-requires : tie.Need-can-throw-requires Inv-loop μ-loop
 can-throw-requires c κs = search needs
@@ -415,7 +393,7 @@ loop-less-14 : tie.Need-loop-less-14 Inv-loop μ-loop
 loop-less-14 c = halted-less (c .before .before .before .before .before .before .before .before .before .before .before .before .before .before .before .before .before .loop .regs) (c .by-throw .ensures) (ap saysThrown (c .before .enum-told11 .given .1)) ((found (c .before .before .before .before .before .before .before)) .less)
 
 loop-again-14 : tie.Need-loop-again-14 Inv-loop μ-loop
-loop-again-14 c = (ends (found (c .before .before .before .before .before .before .before)) (throw-acts (found (c .before .before .before .before .before .before .before)) (c .before .before .before .before .before .match3 .keys6)) (told saysThrown (c .before .before .before .can-throw .ensures) (c .before .enum-told11 .given .1)) (c .before .before .before .can-throw .ensures) (c .by-throw .ensures), c .before .before .before .before .before .before .before .before .before .before .before .before .before .before .before .before .before .loop .inv .1)
+loop-again-14 c = (ends (found (c .before .before .before .before .before .before .before)) (throw-acts (found (c .before .before .before .before .before .before .before)) (c .before .before .before .before .before .match3 .keys6)) (told saysThrown (c .before .before .before .can-throw .ensures) (c .before .enum-told11 .given .1)) (c .before .before .before .can-throw .ensures) (c .by-throw .ensures), (c .before .before .before .before .before .before .before .before .before .before .before .before .before .before .before .before .before .loop .inv .1))
 
 enum-told-12 : tie.Need-enum-told-12 Inv-loop μ-loop
 enum-told-12 c = search needs
@@ -430,52 +408,52 @@ loop-less-15 : tie.Need-loop-less-15 Inv-loop μ-loop
 loop-less-15 c = omega (arith, c .counted7 .ensures .1)
 
 loop-again-15 : tie.Need-loop-again-15 Inv-loop μ-loop
-loop-again-15 c = (goes (found (c .before .before .before .before .before .before .before .before .before .before)) (throw-acts (found (c .before .before .before .before .before .before .before .before .before .before)) (c .before .before .before .before .before .before .before .before .match3 .keys6)) (told saysThrown (c .before .before .before .before .before .before .can-throw .ensures) (c .before .before .before .before .thrown .given .1 ∙ ap thrown.Found (c .before .enum-told12 .given .1))) refl refl refl (c .counted7 .ensures .0), c .before .before .before .before .before .before .before .before .before .before .before .before .before .before .before .before .before .before .before .before .loop .inv .1)
+loop-again-15 c = (goes (found (c .before .before .before .before .before .before .before .before .before .before)) (throw-acts (found (c .before .before .before .before .before .before .before .before .before .before)) (c .before .before .before .before .before .before .before .before .match3 .keys6)) (told saysThrown (c .before .before .before .before .before .before .can-throw .ensures) (c .before .before .before .before .thrown .given .1 ∙ ap thrown.Found (c .before .enum-told12 .given .1))) refl refl refl (c .counted7 .ensures .0), (c .before .before .before .before .before .before .before .before .before .before .before .before .before .before .before .before .before .before .before .before .loop .inv .1))
 
 enum-known-throw : tie.Need-enum-known-throw Inv-loop μ-loop
 enum-known-throw c = search needs
 
-mul-level-2 : tie.Need-mul-level-2 Inv-loop μ-loop
-mul-level-2 c = omega (arith, code-room (c .before .before .before .before .before .before .before .before .before .before .before .before .before .before .before .before .before .before .before .before .loop .cells) (c .before .before .before .before .before .before .before .before .before .before .before .before .before .before .before .before .before .before .before .before .loop .regs .p) (told saysThrown (c .before .before .before .before .before .before .can-throw .ensures) (c .before .before .before .before .thrown .given .1 ∙ ap thrown.Found (c .before .throw .given .1))), (c .before .before .before .before .before .before .before .before .before .before .before .before .before .before .before .before .before .before .before .before .loop .inv .0) .catcher (code-room (c .before .before .before .before .before .before .before .before .before .before .before .before .before .before .before .before .before .before .before .before .loop .cells) (c .before .before .before .before .before .before .before .before .before .before .before .before .before .before .before .before .before .before .before .before .loop .regs .p) (told saysThrown (c .before .before .before .before .before .before .can-throw .ensures) (c .before .before .before .before .thrown .given .1 ∙ ap thrown.Found (c .before .throw .given .1)))))
+copy-of-s-requires-2 : tie.Need-copy-of-s-requires-2 Inv-loop μ-loop
+copy-of-s-requires-2 c κs = omega (arith, (c .before .before .before .before .before .before .before .before .before .before .before .before .before .before .before .before .before .before .before .before .before .loop .inv .0) .e-within)
 
-array-copy-out-level-2 : tie.Need-array-copy-out-level-2 Inv-loop μ-loop
-array-copy-out-level-2 c = omega (arith, code-room (c .before .before .before .before .before .before .before .before .before .before .before .before .before .before .before .before .before .before .before .before .loop .cells) (c .before .before .before .before .before .before .before .before .before .before .before .before .before .before .before .before .before .before .before .before .loop .regs .p) (told saysThrown (c .before .before .before .before .before .before .can-throw .ensures) (c .before .before .before .before .thrown .given .1 ∙ ap thrown.Found (c .before .throw .given .1))), (c .before .before .before .before .before .before .before .before .before .before .before .before .before .before .before .before .before .before .before .before .loop .inv .0) .catcher (code-room (c .before .before .before .before .before .before .before .before .before .before .before .before .before .before .before .before .before .before .before .before .loop .cells) (c .before .before .before .before .before .before .before .before .before .before .before .before .before .before .before .before .before .before .before .before .loop .regs .p) (told saysThrown (c .before .before .before .before .before .before .can-throw .ensures) (c .before .before .before .before .thrown .given .1 ∙ ap thrown.Found (c .before .throw .given .1)))))
-
-add-frame : tie.Need-add-frame Inv-loop μ-loop
-add-frame c = omega (arith, code-room (c .before .before .before .before .before .before .before .before .before .before .before .before .before .before .before .before .before .before .before .before .before .loop .cells) (c .before .before .before .before .before .before .before .before .before .before .before .before .before .before .before .before .before .before .before .before .before .loop .regs .p) (told saysThrown (c .before .before .before .before .before .before .before .can-throw .ensures) (c .before .before .before .before .before .thrown .given .1 ∙ ap thrown.Found (c .before .before .throw .given .1))), (c .before .before .before .before .before .before .before .before .before .before .before .before .before .before .before .before .before .before .before .before .before .loop .inv .0) .catcher (code-room (c .before .before .before .before .before .before .before .before .before .before .before .before .before .before .before .before .before .before .before .before .before .loop .cells) (c .before .before .before .before .before .before .before .before .before .before .before .before .before .before .before .before .before .before .before .before .before .loop .regs .p) (told saysThrown (c .before .before .before .before .before .before .before .can-throw .ensures) (c .before .before .before .before .before .thrown .given .1 ∙ ap thrown.Found (c .before .before .throw .given .1)))))
-
-mul-frame-2 : tie.Need-mul-frame-2 Inv-loop μ-loop
-mul-frame-2 c = omega (arith, code-room (c .before .before .before .before .before .before .before .before .before .before .before .before .before .before .before .before .before .before .before .before .before .loop .cells) (c .before .before .before .before .before .before .before .before .before .before .before .before .before .before .before .before .before .before .before .before .before .loop .regs .p) (told saysThrown (c .before .before .before .before .before .before .before .can-throw .ensures) (c .before .before .before .before .before .thrown .given .1 ∙ ap thrown.Found (c .before .before .throw .given .1))), (c .before .before .before .before .before .before .before .before .before .before .before .before .before .before .before .before .before .before .before .before .before .loop .inv .0) .catcher (code-room (c .before .before .before .before .before .before .before .before .before .before .before .before .before .before .before .before .before .before .before .before .before .loop .cells) (c .before .before .before .before .before .before .before .before .before .before .before .before .before .before .before .before .before .before .before .before .before .loop .regs .p) (told saysThrown (c .before .before .before .before .before .before .before .can-throw .ensures) (c .before .before .before .before .before .thrown .given .1 ∙ ap thrown.Found (c .before .before .throw .given .1)))))
-
-array-copy-out-frame-2 : tie.Need-array-copy-out-frame-2 Inv-loop μ-loop
-array-copy-out-frame-2 c = omega (arith, code-room (c .before .before .before .before .before .before .before .before .before .before .before .before .before .before .before .before .before .before .before .before .before .loop .cells) (c .before .before .before .before .before .before .before .before .before .before .before .before .before .before .before .before .before .before .before .before .before .loop .regs .p) (told saysThrown (c .before .before .before .before .before .before .before .can-throw .ensures) (c .before .before .before .before .before .thrown .given .1 ∙ ap thrown.Found (c .before .before .throw .given .1))), (c .before .before .before .before .before .before .before .before .before .before .before .before .before .before .before .before .before .before .before .before .before .loop .inv .0) .catcher (code-room (c .before .before .before .before .before .before .before .before .before .before .before .before .before .before .before .before .before .before .before .before .before .loop .cells) (c .before .before .before .before .before .before .before .before .before .before .before .before .before .before .before .before .before .before .before .before .before .loop .regs .p) (told saysThrown (c .before .before .before .before .before .before .before .can-throw .ensures) (c .before .before .before .before .before .thrown .given .1 ∙ ap thrown.Found (c .before .before .throw .given .1)))))
+copy-of-p-requires : tie.Need-copy-of-p-requires Inv-loop μ-loop
+copy-of-p-requires c κs = omega (arith, (c .before .before .before .before .before .before .before .before .before .before .before .before .before .before .before .before .before .before .before .before .before .before .before .loop .inv .0) .e-within)
 
 mul-cells-5 : tie.Need-mul-cells-5 Inv-loop μ-loop
-mul-cells-5 c = omega (arith, code-room (c .before .before .before .before .before .before .before .before .before .before .before .before .before .before .before .before .before .before .before .before .before .before .loop .cells) (c .before .before .before .before .before .before .before .before .before .before .before .before .before .before .before .before .before .before .before .before .before .before .loop .regs .p) (told saysThrown (c .before .before .before .before .before .before .before .before .can-throw .ensures) (c .before .before .before .before .before .before .thrown .given .1 ∙ ap thrown.Found (c .before .before .before .throw .given .1))), (c .before .before .before .before .before .before .before .before .before .before .before .before .before .before .before .before .before .before .before .before .before .before .loop .inv .0) .catcher (code-room (c .before .before .before .before .before .before .before .before .before .before .before .before .before .before .before .before .before .before .before .before .before .before .loop .cells) (c .before .before .before .before .before .before .before .before .before .before .before .before .before .before .before .before .before .before .before .before .before .before .loop .regs .p) (told saysThrown (c .before .before .before .before .before .before .before .before .can-throw .ensures) (c .before .before .before .before .before .before .thrown .given .1 ∙ ap thrown.Found (c .before .before .before .throw .given .1)))))
+mul-cells-5 c = omega (arith, (c .before .before .before .before .before .before .before .before .before .before .before .before .before .before .before .before .before .before .before .before .before .before .before .before .loop .inv .0) .catcher (code-room (c .before .before .before .before .before .before .before .before .before .before .before .before .before .before .before .before .before .before .before .before .before .before .before .before .loop .cells) (c .before .before .before .before .before .before .before .before .before .before .before .before .before .before .before .before .before .before .before .before .before .before .before .before .loop .regs .p) (told saysThrown (c .before .before .before .before .before .before .before .before .before .before .can-throw .ensures) (c .before .before .before .before .before .before .before .before .thrown .given .1 ∙ ap thrown.Found (c .before .before .before .before .before .throw .given .1)))), c .copy-of-p .ensures (c .before .before .before .before .before .before .before .before .before .before .before .before .before .before .before .before .before .before .before .before .before .before .before .before .loop .rows), (c .before .before .before .before .before .before .before .before .before .before .before .before .before .before .before .before .before .before .before .before .before .before .before .before .loop .inv .0) .s-within, (c .before .before .copy-of-s2 .ensures (c .before .before .before .before .before .before .before .before .before .before .before .before .before .before .before .before .before .before .before .before .before .before .before .before .loop .rows)))
 
-array-write-cells-3 : tie.Need-array-write-cells-3 Inv-loop μ-loop
-array-write-cells-3 c = omega (arith, code-room (c .before .before .before .before .before .before .before .before .before .before .before .before .before .before .before .before .before .before .before .before .before .before .loop .cells) (c .before .before .before .before .before .before .before .before .before .before .before .before .before .before .before .before .before .before .before .before .before .before .loop .regs .p) (told saysThrown (c .before .before .before .before .before .before .before .before .can-throw .ensures) (c .before .before .before .before .before .before .thrown .given .1 ∙ ap thrown.Found (c .before .before .before .throw .given .1))), (c .before .before .before .before .before .before .before .before .before .before .before .before .before .before .before .before .before .before .before .before .before .before .loop .inv .0) .catcher (code-room (c .before .before .before .before .before .before .before .before .before .before .before .before .before .before .before .before .before .before .before .before .before .before .loop .cells) (c .before .before .before .before .before .before .before .before .before .before .before .before .before .before .before .before .before .before .before .before .before .before .loop .regs .p) (told saysThrown (c .before .before .before .before .before .before .before .before .can-throw .ensures) (c .before .before .before .before .before .before .thrown .given .1 ∙ ap thrown.Found (c .before .before .before .throw .given .1)))))
+element-write-cells-3 : tie.Need-element-write-cells-3 Inv-loop μ-loop
+element-write-cells-3 c = omega (arith, (c .before .before .before .before .before .before .before .before .before .before .before .before .before .before .before .before .before .before .before .before .before .before .before .before .loop .inv .0) .catcher (code-room (c .before .before .before .before .before .before .before .before .before .before .before .before .before .before .before .before .before .before .before .before .before .before .before .before .loop .cells) (c .before .before .before .before .before .before .before .before .before .before .before .before .before .before .before .before .before .before .before .before .before .before .before .before .loop .regs .p) (told saysThrown (c .before .before .before .before .before .before .before .before .before .before .can-throw .ensures) (c .before .before .before .before .before .before .before .before .thrown .given .1 ∙ ap thrown.Found (c .before .before .before .before .before .throw .given .1)))), c .copy-of-p .ensures (c .before .before .before .before .before .before .before .before .before .before .before .before .before .before .before .before .before .before .before .before .before .before .before .before .loop .rows), (c .before .before .before .before .before .before .before .before .before .before .before .before .before .before .before .before .before .before .before .before .before .before .before .before .loop .inv .0) .s-within, (c .before .before .copy-of-s2 .ensures (c .before .before .before .before .before .before .before .before .before .before .before .before .before .before .before .before .before .before .before .before .before .before .before .before .loop .rows)))
 
 add-regs-7 : tie.Need-add-regs-7 Inv-loop μ-loop
-add-regs-7 c = omega (arith, code-room (c .before .before .before .before .before .before .before .before .before .before .before .before .before .before .before .before .before .before .before .before .before .before .loop .cells) (c .before .before .before .before .before .before .before .before .before .before .before .before .before .before .before .before .before .before .before .before .before .before .loop .regs .p) (told saysThrown (c .before .before .before .before .before .before .before .before .can-throw .ensures) (c .before .before .before .before .before .before .thrown .given .1 ∙ ap thrown.Found (c .before .before .before .throw .given .1))), (c .before .before .before .before .before .before .before .before .before .before .before .before .before .before .before .before .before .before .before .before .before .before .loop .inv .0) .catcher (code-room (c .before .before .before .before .before .before .before .before .before .before .before .before .before .before .before .before .before .before .before .before .before .before .loop .cells) (c .before .before .before .before .before .before .before .before .before .before .before .before .before .before .before .before .before .before .before .before .before .before .loop .regs .p) (told saysThrown (c .before .before .before .before .before .before .before .before .can-throw .ensures) (c .before .before .before .before .before .before .thrown .given .1 ∙ ap thrown.Found (c .before .before .before .throw .given .1)))))
+add-regs-7 c = omega (arith, (c .before .before .before .before .before .before .before .before .before .before .before .before .before .before .before .before .before .before .before .before .before .before .before .before .loop .inv .0) .catcher (code-room (c .before .before .before .before .before .before .before .before .before .before .before .before .before .before .before .before .before .before .before .before .before .before .before .before .loop .cells) (c .before .before .before .before .before .before .before .before .before .before .before .before .before .before .before .before .before .before .before .before .before .before .before .before .loop .regs .p) (told saysThrown (c .before .before .before .before .before .before .before .before .before .before .can-throw .ensures) (c .before .before .before .before .before .before .before .before .thrown .given .1 ∙ ap thrown.Found (c .before .before .before .before .before .throw .given .1)))), c .copy-of-p .ensures (c .before .before .before .before .before .before .before .before .before .before .before .before .before .before .before .before .before .before .before .before .before .before .before .before .loop .rows), (c .before .before .before .before .before .before .before .before .before .before .before .before .before .before .before .before .before .before .before .before .before .before .before .before .loop .inv .0) .s-within, (c .before .before .copy-of-s2 .ensures (c .before .before .before .before .before .before .before .before .before .before .before .before .before .before .before .before .before .before .before .before .before .before .before .before .loop .rows)))
+
+add-copy-of-r : tie.Need-add-copy-of-r Inv-loop μ-loop
+add-copy-of-r c = omega (arith, (c .before .before .before .before .before .before .before .before .before .before .before .before .before .before .before .before .before .before .before .before .before .before .before .before .before .loop .inv .0) .catcher (code-room (c .before .before .before .before .before .before .before .before .before .before .before .before .before .before .before .before .before .before .before .before .before .before .before .before .before .loop .cells) (c .before .before .before .before .before .before .before .before .before .before .before .before .before .before .before .before .before .before .before .before .before .before .before .before .before .loop .regs .p) (told saysThrown (c .before .before .before .before .before .before .before .before .before .before .before .can-throw .ensures) (c .before .before .before .before .before .before .before .before .before .thrown .given .1 ∙ ap thrown.Found (c .before .before .before .before .before .before .throw .given .1)))), c .before .copy-of-p .ensures (c .before .before .before .before .before .before .before .before .before .before .before .before .before .before .before .before .before .before .before .before .before .before .before .before .before .loop .rows), (c .before .before .before .before .before .before .before .before .before .before .before .before .before .before .before .before .before .before .before .before .before .before .before .before .before .loop .inv .0) .s-within, (c .before .before .before .copy-of-s2 .ensures (c .before .before .before .before .before .before .before .before .before .before .before .before .before .before .before .before .before .before .before .before .before .before .before .before .before .loop .rows)))
+
+copy-of-r-requires-2 : tie.Need-copy-of-r-requires-2 Inv-loop μ-loop
+copy-of-r-requires-2 c κs = omega (arith, (c .before .before .before .before .before .before .before .before .before .before .before .before .before .before .before .before .before .before .before .before .before .before .before .before .before .loop .inv .0) .s-within, (c .before .before .before .before .before .before .before .before .before .before .before .before .before .before .before .before .before .before .before .before .before .before .before .before .before .loop .inv .0) .catcher (code-room (c .before .before .before .before .before .before .before .before .before .before .before .before .before .before .before .before .before .before .before .before .before .before .before .before .before .loop .cells) (c .before .before .before .before .before .before .before .before .before .before .before .before .before .before .before .before .before .before .before .before .before .before .before .before .before .loop .regs .p) (told saysThrown (c .before .before .before .before .before .before .before .before .before .before .before .can-throw .ensures) (c .before .before .before .before .before .before .before .before .before .thrown .given .1 ∙ ap thrown.Found (c .before .before .before .before .before .before .throw .given .1)))), (c .before .before .before .copy-of-s2 .ensures (c .before .before .before .before .before .before .before .before .before .before .before .before .before .before .before .before .before .before .before .before .before .before .before .before .before .loop .rows)))
 
 sub-regs-5 : tie.Need-sub-regs-5 Inv-loop μ-loop
-sub-regs-5 c = omega (arith, code-room (c .before .before .before .before .before .before .before .before .before .before .before .before .before .before .before .before .before .before .before .before .before .before .loop .cells) (c .before .before .before .before .before .before .before .before .before .before .before .before .before .before .before .before .before .before .before .before .before .before .loop .regs .p) (told saysThrown (c .before .before .before .before .before .before .before .before .can-throw .ensures) (c .before .before .before .before .before .before .thrown .given .1 ∙ ap thrown.Found (c .before .before .before .throw .given .1))), (c .before .before .before .before .before .before .before .before .before .before .before .before .before .before .before .before .before .before .before .before .before .before .loop .inv .0) .catcher (code-room (c .before .before .before .before .before .before .before .before .before .before .before .before .before .before .before .before .before .before .before .before .before .before .loop .cells) (c .before .before .before .before .before .before .before .before .before .before .before .before .before .before .before .before .before .before .before .before .before .before .loop .regs .p) (told saysThrown (c .before .before .before .before .before .before .before .before .can-throw .ensures) (c .before .before .before .before .before .before .thrown .given .1 ∙ ap thrown.Found (c .before .before .before .throw .given .1)))))
+sub-regs-5 c = omega (arith, (code-room (c .before .before .before .before .before .before .before .before .before .before .before .before .before .before .before .before .before .before .before .before .before .before .before .before .before .before .loop .cells) (c .before .before .before .before .before .before .before .before .before .before .before .before .before .before .before .before .before .before .before .before .before .before .before .before .before .before .loop .regs .p) (told saysThrown (c .before .before .before .before .before .before .before .before .before .before .before .before .can-throw .ensures) (c .before .before .before .before .before .before .before .before .before .before .thrown .given .1 ∙ ap thrown.Found (c .before .before .before .before .before .before .before .throw .given .1)))))
+
+throw-address-requires : tie.Need-throw-address-requires Inv-loop μ-loop
+throw-address-requires c κs = omega (arith, (c .before .before .before .before .before .before .before .before .before .before .before .before .before .before .before .before .before .before .before .before .before .before .before .before .before .before .before .loop .inv .0) .e-within)
 
 price-requires-7 : tie.Need-price-requires-7 Inv-loop μ-loop
-price-requires-7 c κs = search needs
+price-requires-7 c κs = c .before .before .before .before .before .before .before .before .before .before .before .before .before .before .before .before .before .before .before .before .before .before .before .before .before .before .before .before .loop .inv .1 .0
 
 counted-requires-8 : tie.Need-counted-requires-8 Inv-loop μ-loop
-counted-requires-8 c κs = ((found (c .before .before .before .before .before .before .before .before .before .before .before .before .before .before)) .less, ((omega (arith, (c .before .before .before .before .before .before .before .before .before .before .before .before .before .before .before .before .before .before .before .before .before .before .before .before .loop .inv .0) .priced, (c .before .before .before .before .before .before .before .before .before .before .before .before .before .before .before .before .before .before .before .before .before .before .before .before .loop .inv .0) .limit, (c .before .before .before .before .before .before .before .before .before .before .before .before .before .before .before .before .before .before .before .before .before .before .before .before .loop .inv .0) .left-within, (found (c .before .before .before .before .before .before .before .before .before .before .before .before .before .before)) .less)), omega arith))
+counted-requires-8 c κs = ((found (c .before .before .before .before .before .before .before .before .before .before .before .before .before .before .before .before .before .before .before)) .less, ((omega (arith, (c .before .before .before .before .before .before .before .before .before .before .before .before .before .before .before .before .before .before .before .before .before .before .before .before .before .before .before .before .before .loop .inv .0) .priced, (c .before .before .before .before .before .before .before .before .before .before .before .before .before .before .before .before .before .before .before .before .before .before .before .before .before .before .before .before .before .loop .inv .0) .limit, (c .before .before .before .before .before .before .before .before .before .before .before .before .before .before .before .before .before .before .before .before .before .before .before .before .before .before .before .before .before .loop .inv .0) .left-within, (found (c .before .before .before .before .before .before .before .before .before .before .before .before .before .before .before .before .before .before .before)) .less)), omega arith))
 
 loop-less-16 : tie.Need-loop-less-16 Inv-loop μ-loop
 loop-less-16 c = omega (arith, c .counted8 .ensures .1)
 
 loop-again-16 : tie.Need-loop-again-16 Inv-loop μ-loop
-loop-again-16 c = (goes (found (c .before .before .before .before .before .before .before .before .before .before .before .before .before .before .before)) (throw-acts (found (c .before .before .before .before .before .before .before .before .before .before .before .before .before .before .before)) (c .before .before .before .before .before .before .before .before .before .before .before .before .before .match3 .keys6)) (told saysThrown (c .before .before .before .before .before .before .before .before .before .before .before .can-throw .ensures) (c .before .before .before .before .before .before .before .before .before .thrown .given .1 ∙ ap thrown.Found (c .before .before .before .before .before .before .throw .given .1))) refl refl (c .before .price7 .ensures .0) (c .counted8 .ensures .0), c .before .before .before .before .before .before .before .before .before .before .before .before .before .before .before .before .before .before .before .before .before .before .before .before .before .loop .inv .1)
+loop-again-16 c = (goes (found (c .before .before .before .before .before .before .before .before .before .before .before .before .before .before .before .before .before .before .before .before)) (throw-acts (found (c .before .before .before .before .before .before .before .before .before .before .before .before .before .before .before .before .before .before .before .before)) (c .before .before .before .before .before .before .before .before .before .before .before .before .before .before .before .before .before .before .match3 .keys6)) (told saysThrown (c .before .before .before .before .before .before .before .before .before .before .before .before .before .before .before .before .can-throw .ensures) (c .before .before .before .before .before .before .before .before .before .before .before .before .before .before .thrown .given .1 ∙ ap thrown.Found (c .before .before .before .before .before .before .before .before .before .before .before .throw .given .1))) (thrown-there (found (c .before .before .before .before .before .before .before .before .before .before .before .before .before .before .before .before .before .before .before .before)) (c .before .before .before .before .before .before .before .before .before .before .before .throw .given .0 .0) (c .before .before .before .before .before .before .copy-of-p .ensures (c .before .before .before .before .before .before .before .before .before .before .before .before .before .before .before .before .before .before .before .before .before .before .before .before .before .before .before .before .before .before .loop .rows)) (c .before .before .before .before .before .before .before .before .copy-of-s2 .ensures (c .before .before .before .before .before .before .before .before .before .before .before .before .before .before .before .before .before .before .before .before .before .before .before .before .before .before .before .before .before .before .loop .rows)) (c .before .before .before .before .copy-of-r2 .ensures (c .before .before .before .before .before .before .before .before .before .before .before .before .before .before .before .before .before .before .before .before .before .before .before .before .before .before .before .before .before .before .loop .rows)) (c .before .before .throw-address .ensures (c .before .before .before .before .before .before .before .before .before .before .before .before .before .before .before .before .before .before .before .before .before .before .before .before .before .before .before .before .before .before .loop .copies))) refl (c .before .price7 .ensures .0) (c .counted8 .ensures .0), (c .before .before .before .before .before .before .before .before .before .before .before .before .before .before .before .before .before .before .before .before .before .before .before .before .before .before .before .before .before .before .loop .inv .1))
 
 reach-requires : tie.Need-reach-requires Inv-loop μ-loop
-reach-requires c κs = (omega arith, ((c .before .before .before .before .before .before .before .before .before .before .before .before .before .loop .inv .0) .p-within, c .before .before .before .before .before .before .before .before .before .before .before .before .before .before .before .before .before .before .before .before .pre .1 .shared-within))
+reach-requires c κs = (omega arith, ((c .before .before .before .before .before .before .before .before .before .before .before .before .before .loop .inv .0) .p-within, c .before .before .before .before .before .before .before .before .before .before .before .before .before .before .before .pre .bounded .shared-within))
 
 enum-known-reached : tie.Need-enum-known-reached Inv-loop μ-loop
 enum-known-reached c = search needs
@@ -490,130 +468,118 @@ loop-less-17 : tie.Need-loop-less-17 Inv-loop μ-loop
 loop-less-17 c = halted-less (c .before .before .before .before .before .before .before .before .before .before .before .before .before .before .before .before .before .loop .regs) (c .by-reach .ensures) (ap saysReached (c .before .enum-told13 .given .1)) ((found (c .before .before .before .before .before .before .before)) .less)
 
 loop-again-17 : tie.Need-loop-again-17 Inv-loop μ-loop
-loop-again-17 c = (ends (found (c .before .before .before .before .before .before .before)) (fetch-acts (found (c .before .before .before .before .before .before .before)) (c .before .before .before .before .before .match3 .keys7)) (told saysReached (c .before .before .before .reach .ensures .0) (c .before .enum-told13 .given .1)) (c .before .before .before .reach .ensures .0) (c .by-reach .ensures), c .before .before .before .before .before .before .before .before .before .before .before .before .before .before .before .before .before .loop .inv .1)
+loop-again-17 c = (ends (found (c .before .before .before .before .before .before .before)) (fetch-acts (found (c .before .before .before .before .before .before .before)) (c .before .before .before .before .before .match3 .keys7)) (told saysReached (c .before .before .before .reach .ensures .0) (c .before .enum-told13 .given .1)) (c .before .before .before .reach .ensures .0) (c .by-reach .ensures), (c .before .before .before .before .before .before .before .before .before .before .before .before .before .before .before .before .before .loop .inv .1))
 
 enum-known-spot : tie.Need-enum-known-spot Inv-loop μ-loop
 enum-known-spot c = search needs
 
 read-number-requires : tie.Need-read-number-requires Inv-loop μ-loop
-read-number-requires c κs = omega (arith, memory-room (c .before .before .before .before .before .before .before .before .before .before .before .before .before .before .before .before .before .before .before .before .before .before .before .before .before .before .before .before .args .reach) (widthOf (c .before .before .before .before .before .before .before .before .before .before .before .before .fetched .given .0 .0)) (c .before .before .before .before .before .before .before .before .before .before .before .before .before .before .before .before .before .before .before .before .before .loop .cells) (told saysReached (c .before .before .before .before .before .before .before .reach .ensures .0) (c .before .before .before .before .before .reached .given .1 ∙ ap reached.At (c .before .before .spot .given .1))), (c .before .before .before .before .before .before .before .before .before .before .before .before .before .before .before .before .before .before .before .before .before .loop .inv .0) .long)
+read-number-requires c κs = omega (arith, memory-room (c .before .before .before .before .before .before .before .before .before .before .before .before .before .before .before .before .before .before .before .before .before .before .before .args .reach) (widthOf (c .before .before .before .before .before .before .before .before .before .before .before .before .fetched .given .0 .0)) (c .before .before .before .before .before .before .before .before .before .before .before .before .before .before .before .before .before .before .before .before .before .loop .cells) (told saysReached (c .before .before .before .before .before .before .before .reach .ensures .0) (c .before .before .before .before .before .reached .given .1 ∙ ap reached.At (c .before .before .spot .given .1))), (c .before .before .before .before .before .before .before .before .before .before .before .before .before .before .before .before .before .before .before .before .before .loop .inv .0) .long)
 
 sub-cells-3 : tie.Need-sub-cells-3 Inv-loop μ-loop
-sub-cells-3 c = omega (arith, memory-room (c .before .before .before .before .before .before .before .before .before .before .before .before .before .before .before .before .before .before .before .before .before .before .before .before .before .before .before .before .before .args .reach) (widthOf (c .before .before .before .before .before .before .before .before .before .before .before .before .before .fetched .given .0 .0)) (c .before .before .before .before .before .before .before .before .before .before .before .before .before .before .before .before .before .before .before .before .before .before .loop .cells) (told saysReached (c .before .before .before .before .before .before .before .before .reach .ensures .0) (c .before .before .before .before .before .before .reached .given .1 ∙ ap reached.At (c .before .before .before .spot .given .1))))
+sub-cells-3 c = omega (arith, memory-room (c .before .before .before .before .before .before .before .before .before .before .before .before .before .before .before .before .before .before .before .before .before .before .before .before .args .reach) (widthOf (c .before .before .before .before .before .before .before .before .before .before .before .before .before .fetched .given .0 .0)) (c .before .before .before .before .before .before .before .before .before .before .before .before .before .before .before .before .before .before .before .before .before .before .loop .cells) (told saysReached (c .before .before .before .before .before .before .before .before .reach .ensures .0) (c .before .before .before .before .before .before .reached .given .1 ∙ ap reached.At (c .before .before .before .spot .given .1))))
 
 mul-cells-6 : tie.Need-mul-cells-6 Inv-loop μ-loop
-mul-cells-6 c = omega (arith, memory-room (c .before .before .before .before .before .before .before .before .before .before .before .before .before .before .before .before .before .before .before .before .before .before .before .before .before .before .before .before .before .args .reach) (widthOf (c .before .before .before .before .before .before .before .before .before .before .before .before .before .fetched .given .0 .0)) (c .before .before .before .before .before .before .before .before .before .before .before .before .before .before .before .before .before .before .before .before .before .before .loop .cells) (told saysReached (c .before .before .before .before .before .before .before .before .reach .ensures .0) (c .before .before .before .before .before .before .reached .given .1 ∙ ap reached.At (c .before .before .before .spot .given .1))))
+mul-cells-6 c = omega (arith, memory-room (c .before .before .before .before .before .before .before .before .before .before .before .before .before .before .before .before .before .before .before .before .before .before .before .before .args .reach) (widthOf (c .before .before .before .before .before .before .before .before .before .before .before .before .before .fetched .given .0 .0)) (c .before .before .before .before .before .before .before .before .before .before .before .before .before .before .before .before .before .before .before .before .before .before .loop .cells) (told saysReached (c .before .before .before .before .before .before .before .before .reach .ensures .0) (c .before .before .before .before .before .before .reached .given .1 ∙ ap reached.At (c .before .before .before .spot .given .1))))
 
-array-write-cells-4 : tie.Need-array-write-cells-4 Inv-loop μ-loop
-array-write-cells-4 c = omega (arith, memory-room (c .before .before .before .before .before .before .before .before .before .before .before .before .before .before .before .before .before .before .before .before .before .before .before .before .before .before .before .before .before .args .reach) (widthOf (c .before .before .before .before .before .before .before .before .before .before .before .before .before .fetched .given .0 .0)) (c .before .before .before .before .before .before .before .before .before .before .before .before .before .before .before .before .before .before .before .before .before .before .loop .cells) (told saysReached (c .before .before .before .before .before .before .before .before .reach .ensures .0) (c .before .before .before .before .before .before .reached .given .1 ∙ ap reached.At (c .before .before .before .spot .given .1))))
+element-write-cells-4 : tie.Need-element-write-cells-4 Inv-loop μ-loop
+element-write-cells-4 c = omega (arith, memory-room (c .before .before .before .before .before .before .before .before .before .before .before .before .before .before .before .before .before .before .before .before .before .before .before .before .args .reach) (widthOf (c .before .before .before .before .before .before .before .before .before .before .before .before .before .fetched .given .0 .0)) (c .before .before .before .before .before .before .before .before .before .before .before .before .before .before .before .before .before .before .before .before .before .before .loop .cells) (told saysReached (c .before .before .before .before .before .before .before .before .reach .ensures .0) (c .before .before .before .before .before .before .reached .given .1 ∙ ap reached.At (c .before .before .before .spot .given .1))))
 
 price-requires-8 : tie.Need-price-requires-8 Inv-loop μ-loop
-price-requires-8 c κs = search needs
+price-requires-8 c κs = c .before .before .before .before .before .before .before .before .before .before .before .before .before .before .before .before .before .before .before .before .before .before .loop .inv .1 .0
 
 counted-requires-9 : tie.Need-counted-requires-9 Inv-loop μ-loop
-counted-requires-9 c κs = ((found (c .before .before .before .before .before .before .before .before .before .before .before .before .before .before)) .less, ((omega (arith, (c .before .before .before .before .before .before .before .before .before .before .before .before .before .before .before .before .before .before .before .before .before .before .before .before .loop .inv .0) .priced, (c .before .before .before .before .before .before .before .before .before .before .before .before .before .before .before .before .before .before .before .before .before .before .before .before .loop .inv .0) .limit, (c .before .before .before .before .before .before .before .before .before .before .before .before .before .before .before .before .before .before .before .before .before .before .before .before .loop .inv .0) .left-within, (found (c .before .before .before .before .before .before .before .before .before .before .before .before .before .before)) .less)), c .price8 .ensures .1))
+counted-requires-9 c κs = ((found (c .before .before .before .before .before .before .before .before .before .before .before .before .before)) .less, ((omega (arith, (c .before .before .before .before .before .before .before .before .before .before .before .before .before .before .before .before .before .before .before .before .before .before .before .loop .inv .0) .priced, (c .before .before .before .before .before .before .before .before .before .before .before .before .before .before .before .before .before .before .before .before .before .before .before .loop .inv .0) .limit, (c .before .before .before .before .before .before .before .before .before .before .before .before .before .before .before .before .before .before .before .before .before .before .before .loop .inv .0) .left-within, (found (c .before .before .before .before .before .before .before .before .before .before .before .before .before)) .less)), c .price8 .ensures .1))
 
 loop-less-18 : tie.Need-loop-less-18 Inv-loop μ-loop
 loop-less-18 c = omega (arith, c .counted9 .ensures .1)
 
 loop-again-18 : tie.Need-loop-again-18 Inv-loop μ-loop
-loop-again-18 c = (goes (found (c .before .before .before .before .before .before .before .before .before .before .before .before .before .before .before)) (fetch-acts (found (c .before .before .before .before .before .before .before .before .before .before .before .before .before .before .before)) (c .before .before .before .before .before .before .before .before .before .before .before .before .before .match3 .keys7)) (told saysReached (c .before .before .before .before .before .before .before .before .before .before .before .reach .ensures .0) (c .before .before .before .before .before .before .before .before .before .reached .given .1 ∙ ap reached.At (c .before .before .before .before .before .before .spot .given .1))) (ap (fetchedAs (found (c .before .before .before .before .before .before .before .before .before .before .before .before .before .before .before))) (sym (c .before .before .before .read-number .ensures))) refl (c .before .price8 .ensures .0) (c .counted9 .ensures .0), c .before .before .before .before .before .before .before .before .before .before .before .before .before .before .before .before .before .before .before .before .before .before .before .before .before .loop .inv .1)
+loop-again-18 c = (goes (found (c .before .before .before .before .before .before .before .before .before .before .before .before .before .before)) (fetch-acts (found (c .before .before .before .before .before .before .before .before .before .before .before .before .before .before)) (c .before .before .before .before .before .before .before .before .before .before .before .before .match3 .keys7)) (told saysReached (c .before .before .before .before .before .before .before .before .before .before .reach .ensures .0) (c .before .before .before .before .before .before .before .before .reached .given .1 ∙ ap reached.At (c .before .before .before .before .before .spot .given .1))) (ap (fetchedAs (found (c .before .before .before .before .before .before .before .before .before .before .before .before .before .before))) (sym (c .before .before .read-number .ensures))) refl (c .before .price8 .ensures .0) (c .counted9 .ensures .0), (c .before .before .before .before .before .before .before .before .before .before .before .before .before .before .before .before .before .before .before .before .before .before .before .before .loop .inv .1))
 
 enum-known-spot-2 : tie.Need-enum-known-spot-2 Inv-loop μ-loop
 enum-known-spot-2 c = search needs
 
 read-number-requires-2 : tie.Need-read-number-requires-2 Inv-loop μ-loop
-read-number-requires-2 c κs = omega (arith, memory-room (c .before .before .before .before .before .before .before .before .before .before .before .before .before .before .before .before .before .before .before .before .before .before .before .before .before .before .before .before .args .reach) (widthOf (c .before .before .before .before .before .before .before .before .before .before .before .before .fetched .given .0 .0)) (c .before .before .before .before .before .before .before .before .before .before .before .before .before .before .before .before .before .before .before .before .before .loop .cells) (told saysReached (c .before .before .before .before .before .before .before .reach .ensures .0) (c .before .before .before .before .before .reached .given .1 ∙ ap reached.At (c .before .before .spot2 .given .1))), (c .before .before .before .before .before .before .before .before .before .before .before .before .before .before .before .before .before .before .before .before .before .loop .inv .0) .long)
+read-number-requires-2 c κs = omega (arith, memory-room (c .before .before .before .before .before .before .before .before .before .before .before .before .before .before .before .before .before .before .before .before .before .before .before .args .reach) (widthOf (c .before .before .before .before .before .before .before .before .before .before .before .before .fetched .given .0 .0)) (c .before .before .before .before .before .before .before .before .before .before .before .before .before .before .before .before .before .before .before .before .before .loop .cells) (told saysReached (c .before .before .before .before .before .before .before .reach .ensures .0) (c .before .before .before .before .before .reached .given .1 ∙ ap reached.At (c .before .before .spot2 .given .1))), (c .before .before .before .before .before .before .before .before .before .before .before .before .before .before .before .before .before .before .before .before .before .loop .inv .0) .long)
 
 sub-cells-4 : tie.Need-sub-cells-4 Inv-loop μ-loop
-sub-cells-4 c = omega (arith, memory-room (c .before .before .before .before .before .before .before .before .before .before .before .before .before .before .before .before .before .before .before .before .before .before .before .before .before .before .before .before .before .args .reach) (widthOf (c .before .before .before .before .before .before .before .before .before .before .before .before .before .fetched .given .0 .0)) (c .before .before .before .before .before .before .before .before .before .before .before .before .before .before .before .before .before .before .before .before .before .before .loop .cells) (told saysReached (c .before .before .before .before .before .before .before .before .reach .ensures .0) (c .before .before .before .before .before .before .reached .given .1 ∙ ap reached.At (c .before .before .before .spot2 .given .1))))
+sub-cells-4 c = omega (arith, memory-room (c .before .before .before .before .before .before .before .before .before .before .before .before .before .before .before .before .before .before .before .before .before .before .before .before .args .reach) (widthOf (c .before .before .before .before .before .before .before .before .before .before .before .before .before .fetched .given .0 .0)) (c .before .before .before .before .before .before .before .before .before .before .before .before .before .before .before .before .before .before .before .before .before .before .loop .cells) (told saysReached (c .before .before .before .before .before .before .before .before .reach .ensures .0) (c .before .before .before .before .before .before .reached .given .1 ∙ ap reached.At (c .before .before .before .spot2 .given .1))))
 
 mul-cells-7 : tie.Need-mul-cells-7 Inv-loop μ-loop
-mul-cells-7 c = omega (arith, memory-room (c .before .before .before .before .before .before .before .before .before .before .before .before .before .before .before .before .before .before .before .before .before .before .before .before .before .before .before .before .before .args .reach) (widthOf (c .before .before .before .before .before .before .before .before .before .before .before .before .before .fetched .given .0 .0)) (c .before .before .before .before .before .before .before .before .before .before .before .before .before .before .before .before .before .before .before .before .before .before .loop .cells) (told saysReached (c .before .before .before .before .before .before .before .before .reach .ensures .0) (c .before .before .before .before .before .before .reached .given .1 ∙ ap reached.At (c .before .before .before .spot2 .given .1))))
+mul-cells-7 c = omega (arith, memory-room (c .before .before .before .before .before .before .before .before .before .before .before .before .before .before .before .before .before .before .before .before .before .before .before .before .args .reach) (widthOf (c .before .before .before .before .before .before .before .before .before .before .before .before .before .fetched .given .0 .0)) (c .before .before .before .before .before .before .before .before .before .before .before .before .before .before .before .before .before .before .before .before .before .before .loop .cells) (told saysReached (c .before .before .before .before .before .before .before .before .reach .ensures .0) (c .before .before .before .before .before .before .reached .given .1 ∙ ap reached.At (c .before .before .before .spot2 .given .1))))
 
-array-write-cells-5 : tie.Need-array-write-cells-5 Inv-loop μ-loop
-array-write-cells-5 c = omega (arith, memory-room (c .before .before .before .before .before .before .before .before .before .before .before .before .before .before .before .before .before .before .before .before .before .before .before .before .before .before .before .before .before .args .reach) (widthOf (c .before .before .before .before .before .before .before .before .before .before .before .before .before .fetched .given .0 .0)) (c .before .before .before .before .before .before .before .before .before .before .before .before .before .before .before .before .before .before .before .before .before .before .loop .cells) (told saysReached (c .before .before .before .before .before .before .before .before .reach .ensures .0) (c .before .before .before .before .before .before .reached .given .1 ∙ ap reached.At (c .before .before .before .spot2 .given .1))))
+element-write-cells-5 : tie.Need-element-write-cells-5 Inv-loop μ-loop
+element-write-cells-5 c = omega (arith, memory-room (c .before .before .before .before .before .before .before .before .before .before .before .before .before .before .before .before .before .before .before .before .before .before .before .before .args .reach) (widthOf (c .before .before .before .before .before .before .before .before .before .before .before .before .before .fetched .given .0 .0)) (c .before .before .before .before .before .before .before .before .before .before .before .before .before .before .before .before .before .before .before .before .before .before .loop .cells) (told saysReached (c .before .before .before .before .before .before .before .before .reach .ensures .0) (c .before .before .before .before .before .before .reached .given .1 ∙ ap reached.At (c .before .before .before .spot2 .given .1))))
 
 price-requires-9 : tie.Need-price-requires-9 Inv-loop μ-loop
-price-requires-9 c κs = search needs
+price-requires-9 c κs = c .before .before .before .before .before .before .before .before .before .before .before .before .before .before .before .before .before .before .before .before .before .before .loop .inv .1 .0
 
 counted-requires-10 : tie.Need-counted-requires-10 Inv-loop μ-loop
-counted-requires-10 c κs = ((found (c .before .before .before .before .before .before .before .before .before .before .before .before .before .before)) .less, ((omega (arith, (c .before .before .before .before .before .before .before .before .before .before .before .before .before .before .before .before .before .before .before .before .before .before .before .before .loop .inv .0) .priced, (c .before .before .before .before .before .before .before .before .before .before .before .before .before .before .before .before .before .before .before .before .before .before .before .before .loop .inv .0) .limit, (c .before .before .before .before .before .before .before .before .before .before .before .before .before .before .before .before .before .before .before .before .before .before .before .before .loop .inv .0) .left-within, (found (c .before .before .before .before .before .before .before .before .before .before .before .before .before .before)) .less)), c .price9 .ensures .1))
+counted-requires-10 c κs = ((found (c .before .before .before .before .before .before .before .before .before .before .before .before .before)) .less, ((omega (arith, (c .before .before .before .before .before .before .before .before .before .before .before .before .before .before .before .before .before .before .before .before .before .before .before .loop .inv .0) .priced, (c .before .before .before .before .before .before .before .before .before .before .before .before .before .before .before .before .before .before .before .before .before .before .before .loop .inv .0) .limit, (c .before .before .before .before .before .before .before .before .before .before .before .before .before .before .before .before .before .before .before .before .before .before .before .loop .inv .0) .left-within, (found (c .before .before .before .before .before .before .before .before .before .before .before .before .before)) .less)), c .price9 .ensures .1))
 
 loop-less-19 : tie.Need-loop-less-19 Inv-loop μ-loop
 loop-less-19 c = omega (arith, c .counted10 .ensures .1)
 
 loop-again-19 : tie.Need-loop-again-19 Inv-loop μ-loop
-loop-again-19 c = (goes (found (c .before .before .before .before .before .before .before .before .before .before .before .before .before .before .before)) (fetch-acts (found (c .before .before .before .before .before .before .before .before .before .before .before .before .before .before .before)) (c .before .before .before .before .before .before .before .before .before .before .before .before .before .match3 .keys7)) (told saysReached (c .before .before .before .before .before .before .before .before .before .before .before .reach .ensures .0) (c .before .before .before .before .before .before .before .before .before .reached .given .1 ∙ ap reached.At (c .before .before .before .before .before .before .spot2 .given .1))) (ap (fetchedAs (found (c .before .before .before .before .before .before .before .before .before .before .before .before .before .before .before))) (sym (c .before .before .before .read-number2 .ensures))) refl (c .before .price9 .ensures .0) (c .counted10 .ensures .0), c .before .before .before .before .before .before .before .before .before .before .before .before .before .before .before .before .before .before .before .before .before .before .before .before .before .loop .inv .1)
+loop-again-19 c = (goes (found (c .before .before .before .before .before .before .before .before .before .before .before .before .before .before)) (fetch-acts (found (c .before .before .before .before .before .before .before .before .before .before .before .before .before .before)) (c .before .before .before .before .before .before .before .before .before .before .before .before .match3 .keys7)) (told saysReached (c .before .before .before .before .before .before .before .before .before .before .reach .ensures .0) (c .before .before .before .before .before .before .before .before .reached .given .1 ∙ ap reached.At (c .before .before .before .before .before .spot2 .given .1))) (ap (fetchedAs (found (c .before .before .before .before .before .before .before .before .before .before .before .before .before .before))) (sym (c .before .before .read-number2 .ensures))) refl (c .before .price9 .ensures .0) (c .counted10 .ensures .0), (c .before .before .before .before .before .before .before .before .before .before .before .before .before .before .before .before .before .before .before .before .before .before .before .before .loop .inv .1))
 
 enum-known-spot-3 : tie.Need-enum-known-spot-3 Inv-loop μ-loop
 enum-known-spot-3 c = search needs
 
-mul-frame-3 : tie.Need-mul-frame-3 Inv-loop μ-loop
-mul-frame-3 c = search needs
-
-array-copy-out-frame-3 : tie.Need-array-copy-out-frame-3 Inv-loop μ-loop
-array-copy-out-frame-3 c = search needs
-
 local-requires : tie.Need-local-requires Inv-loop μ-loop
-local-requires c κs = omega (arith, local-room (c .before .before .before .before .before .before .before .before .before .before .before .before .before .before .before .before .before .before .before .before .before .before .before .before .before .before .before .before .args .reach) (widthOf (c .before .before .before .before .before .before .before .before .before .before .before .before .fetched .given .0 .0)) (c .before .before .before .before .before .before .before .before .before .before .before .before .before .before .before .before .before .before .before .before .before .loop .cells) (told saysReached (c .before .before .before .before .before .before .before .reach .ensures .0) (c .before .before .before .before .before .reached .given .1 ∙ ap reached.At (c .before .before .spot3 .given .1))))
+local-requires c κs = (omega (arith, (c .before .before .before .before .before .before .before .before .before .before .before .before .before .before .before .before .before .before .before .before .before .loop .inv .0) .s-within), omega (arith, local-room (c .before .before .before .before .before .before .before .before .before .before .before .before .before .before .before .before .before .before .before .before .before .before .before .args .reach) (widthOf (c .before .before .before .before .before .before .before .before .before .before .before .before .fetched .given .0 .0)) (c .before .before .before .before .before .before .before .before .before .before .before .before .before .before .before .before .before .before .before .before .before .loop .cells) (told saysReached (c .before .before .before .before .before .before .before .reach .ensures .0) (c .before .before .before .before .before .reached .given .1 ∙ ap reached.At (c .before .before .spot3 .given .1)))))
 
 sub-cells-5 : tie.Need-sub-cells-5 Inv-loop μ-loop
-sub-cells-5 c = omega (arith, local-room (c .before .before .before .before .before .before .before .before .before .before .before .before .before .before .before .before .before .before .before .before .before .before .before .before .before .before .before .before .before .args .reach) (widthOf (c .before .before .before .before .before .before .before .before .before .before .before .before .before .fetched .given .0 .0)) (c .before .before .before .before .before .before .before .before .before .before .before .before .before .before .before .before .before .before .before .before .before .before .loop .cells) (told saysReached (c .before .before .before .before .before .before .before .before .reach .ensures .0) (c .before .before .before .before .before .before .reached .given .1 ∙ ap reached.At (c .before .before .before .spot3 .given .1))), (c .before .before .before .before .before .before .before .before .before .before .before .before .before .before .before .before .before .before .before .before .before .before .loop .inv .0) .s-within)
+sub-cells-5 c = omega (arith, local-room (c .before .before .before .before .before .before .before .before .before .before .before .before .before .before .before .before .before .before .before .before .before .before .before .before .args .reach) (widthOf (c .before .before .before .before .before .before .before .before .before .before .before .before .before .fetched .given .0 .0)) (c .before .before .before .before .before .before .before .before .before .before .before .before .before .before .before .before .before .before .before .before .before .before .loop .cells) (told saysReached (c .before .before .before .before .before .before .before .before .reach .ensures .0) (c .before .before .before .before .before .before .reached .given .1 ∙ ap reached.At (c .before .before .before .spot3 .given .1))), (c .before .before .before .before .before .before .before .before .before .before .before .before .before .before .before .before .before .before .before .before .before .before .loop .inv .0) .p-within)
 
 mul-cells-8 : tie.Need-mul-cells-8 Inv-loop μ-loop
-mul-cells-8 c = omega (arith, local-room (c .before .before .before .before .before .before .before .before .before .before .before .before .before .before .before .before .before .before .before .before .before .before .before .before .before .before .before .before .before .args .reach) (widthOf (c .before .before .before .before .before .before .before .before .before .before .before .before .before .fetched .given .0 .0)) (c .before .before .before .before .before .before .before .before .before .before .before .before .before .before .before .before .before .before .before .before .before .before .loop .cells) (told saysReached (c .before .before .before .before .before .before .before .before .reach .ensures .0) (c .before .before .before .before .before .before .reached .given .1 ∙ ap reached.At (c .before .before .before .spot3 .given .1))), (c .before .before .before .before .before .before .before .before .before .before .before .before .before .before .before .before .before .before .before .before .before .before .loop .inv .0) .s-within)
+mul-cells-8 c = omega (arith, local-room (c .before .before .before .before .before .before .before .before .before .before .before .before .before .before .before .before .before .before .before .before .before .before .before .before .args .reach) (widthOf (c .before .before .before .before .before .before .before .before .before .before .before .before .before .fetched .given .0 .0)) (c .before .before .before .before .before .before .before .before .before .before .before .before .before .before .before .before .before .before .before .before .before .before .loop .cells) (told saysReached (c .before .before .before .before .before .before .before .before .reach .ensures .0) (c .before .before .before .before .before .before .reached .given .1 ∙ ap reached.At (c .before .before .before .spot3 .given .1))), (c .before .before .before .before .before .before .before .before .before .before .before .before .before .before .before .before .before .before .before .before .before .before .loop .inv .0) .p-within)
 
-array-write-cells-6 : tie.Need-array-write-cells-6 Inv-loop μ-loop
-array-write-cells-6 c = omega (arith, local-room (c .before .before .before .before .before .before .before .before .before .before .before .before .before .before .before .before .before .before .before .before .before .before .before .before .before .before .before .before .before .args .reach) (widthOf (c .before .before .before .before .before .before .before .before .before .before .before .before .before .fetched .given .0 .0)) (c .before .before .before .before .before .before .before .before .before .before .before .before .before .before .before .before .before .before .before .before .before .before .loop .cells) (told saysReached (c .before .before .before .before .before .before .before .before .reach .ensures .0) (c .before .before .before .before .before .before .reached .given .1 ∙ ap reached.At (c .before .before .before .spot3 .given .1))), (c .before .before .before .before .before .before .before .before .before .before .before .before .before .before .before .before .before .before .before .before .before .before .loop .inv .0) .s-within)
+element-write-cells-6 : tie.Need-element-write-cells-6 Inv-loop μ-loop
+element-write-cells-6 c = omega (arith, local-room (c .before .before .before .before .before .before .before .before .before .before .before .before .before .before .before .before .before .before .before .before .before .before .before .before .args .reach) (widthOf (c .before .before .before .before .before .before .before .before .before .before .before .before .before .fetched .given .0 .0)) (c .before .before .before .before .before .before .before .before .before .before .before .before .before .before .before .before .before .before .before .before .before .before .loop .cells) (told saysReached (c .before .before .before .before .before .before .before .before .reach .ensures .0) (c .before .before .before .before .before .before .reached .given .1 ∙ ap reached.At (c .before .before .before .spot3 .given .1))), (c .before .before .before .before .before .before .before .before .before .before .before .before .before .before .before .before .before .before .before .before .before .before .loop .inv .0) .p-within)
 
 price-requires-10 : tie.Need-price-requires-10 Inv-loop μ-loop
-price-requires-10 c κs = search needs
+price-requires-10 c κs = c .before .before .before .before .before .before .before .before .before .before .before .before .before .before .before .before .before .before .before .before .before .before .loop .inv .1 .0
 
 counted-requires-11 : tie.Need-counted-requires-11 Inv-loop μ-loop
-counted-requires-11 c κs = ((found (c .before .before .before .before .before .before .before .before .before .before .before .before .before .before)) .less, ((omega (arith, (c .before .before .before .before .before .before .before .before .before .before .before .before .before .before .before .before .before .before .before .before .before .before .before .before .loop .inv .0) .priced, (c .before .before .before .before .before .before .before .before .before .before .before .before .before .before .before .before .before .before .before .before .before .before .before .before .loop .inv .0) .limit, (c .before .before .before .before .before .before .before .before .before .before .before .before .before .before .before .before .before .before .before .before .before .before .before .before .loop .inv .0) .left-within, (found (c .before .before .before .before .before .before .before .before .before .before .before .before .before .before)) .less)), c .price10 .ensures .1))
+counted-requires-11 c κs = ((found (c .before .before .before .before .before .before .before .before .before .before .before .before .before)) .less, ((omega (arith, (c .before .before .before .before .before .before .before .before .before .before .before .before .before .before .before .before .before .before .before .before .before .before .before .loop .inv .0) .priced, (c .before .before .before .before .before .before .before .before .before .before .before .before .before .before .before .before .before .before .before .before .before .before .before .loop .inv .0) .limit, (c .before .before .before .before .before .before .before .before .before .before .before .before .before .before .before .before .before .before .before .before .before .before .before .loop .inv .0) .left-within, (found (c .before .before .before .before .before .before .before .before .before .before .before .before .before)) .less)), c .price10 .ensures .1))
 
 loop-less-20 : tie.Need-loop-less-20 Inv-loop μ-loop
 loop-less-20 c = omega (arith, c .counted11 .ensures .1)
 
 loop-again-20 : tie.Need-loop-again-20 Inv-loop μ-loop
-loop-again-20 c = (goes (found (c .before .before .before .before .before .before .before .before .before .before .before .before .before .before .before)) (fetch-acts (found (c .before .before .before .before .before .before .before .before .before .before .before .before .before .before .before)) (c .before .before .before .before .before .before .before .before .before .before .before .before .before .match3 .keys7)) (told saysReached (c .before .before .before .before .before .before .before .before .before .before .before .reach .ensures .0) (c .before .before .before .before .before .before .before .before .before .reached .given .1 ∙ ap reached.At (c .before .before .before .before .before .before .spot3 .given .1))) (ap (fetchedAs (found (c .before .before .before .before .before .before .before .before .before .before .before .before .before .before .before))) (sym (c .before .before .before .local .ensures))) refl (c .before .price10 .ensures .0) (c .counted11 .ensures .0), c .before .before .before .before .before .before .before .before .before .before .before .before .before .before .before .before .before .before .before .before .before .before .before .before .before .loop .inv .1)
+loop-again-20 c = (goes (found (c .before .before .before .before .before .before .before .before .before .before .before .before .before .before)) (fetch-acts (found (c .before .before .before .before .before .before .before .before .before .before .before .before .before .before)) (c .before .before .before .before .before .before .before .before .before .before .before .before .match3 .keys7)) (told saysReached (c .before .before .before .before .before .before .before .before .before .before .reach .ensures .0) (c .before .before .before .before .before .before .before .before .reached .given .1 ∙ ap reached.At (c .before .before .before .before .before .spot3 .given .1))) (ap (fetchedAs (found (c .before .before .before .before .before .before .before .before .before .before .before .before .before .before))) (sym (c .before .before .local .ensures (c .before .before .before .before .before .before .before .before .before .before .before .before .before .before .before .before .before .before .before .before .before .before .before .before .loop .copies)))) refl (c .before .price10 .ensures .0) (c .counted11 .ensures .0), (c .before .before .before .before .before .before .before .before .before .before .before .before .before .before .before .before .before .before .before .before .before .before .before .before .loop .inv .1))
 
 enum-known-spot-4 : tie.Need-enum-known-spot-4 Inv-loop μ-loop
 enum-known-spot-4 c = search needs
 
-mul-level-3 : tie.Need-mul-level-3 Inv-loop μ-loop
-mul-level-3 c = search needs
-
-array-copy-out-level-3 : tie.Need-array-copy-out-level-3 Inv-loop μ-loop
-array-copy-out-level-3 c = search needs
-
 cell-requires : tie.Need-cell-requires Inv-loop μ-loop
-cell-requires c κs = omega (arith, cell-room (c .before .before .before .before .before .before .before .before .before .before .before .before .before .before .before .before .before .before .before .before .before .before .before .before .before .before .before .before .args .reach) (widthOf (c .before .before .before .before .before .before .before .before .before .before .before .before .fetched .given .0 .0)) (c .before .before .before .before .before .before .before .before .before .before .before .before .before .before .before .before .before .before .before .before .before .loop .cells) (told saysReached (c .before .before .before .before .before .before .before .reach .ensures .0) (c .before .before .before .before .before .reached .given .1 ∙ ap reached.At (c .before .before .spot4 .given .1))))
+cell-requires c κs = (omega (arith, (c .before .before .before .before .before .before .before .before .before .before .before .before .before .before .before .before .before .before .before .before .before .loop .inv .0) .e-within), omega (arith, cell-room (c .before .before .before .before .before .before .before .before .before .before .before .before .before .before .before .before .before .before .before .before .before .before .before .args .reach) (widthOf (c .before .before .before .before .before .before .before .before .before .before .before .before .fetched .given .0 .0)) (c .before .before .before .before .before .before .before .before .before .before .before .before .before .before .before .before .before .before .before .before .before .loop .cells) (told saysReached (c .before .before .before .before .before .before .before .reach .ensures .0) (c .before .before .before .before .before .reached .given .1 ∙ ap reached.At (c .before .before .spot4 .given .1)))))
 
 sub-cells-6 : tie.Need-sub-cells-6 Inv-loop μ-loop
-sub-cells-6 c = omega (arith, cell-room (c .before .before .before .before .before .before .before .before .before .before .before .before .before .before .before .before .before .before .before .before .before .before .before .before .before .before .before .before .before .args .reach) (widthOf (c .before .before .before .before .before .before .before .before .before .before .before .before .before .fetched .given .0 .0)) (c .before .before .before .before .before .before .before .before .before .before .before .before .before .before .before .before .before .before .before .before .before .before .loop .cells) (told saysReached (c .before .before .before .before .before .before .before .before .reach .ensures .0) (c .before .before .before .before .before .before .reached .given .1 ∙ ap reached.At (c .before .before .before .spot4 .given .1))), (c .before .before .before .before .before .before .before .before .before .before .before .before .before .before .before .before .before .before .before .before .before .before .loop .inv .0) .e-within)
+sub-cells-6 c = omega (arith, cell-room (c .before .before .before .before .before .before .before .before .before .before .before .before .before .before .before .before .before .before .before .before .before .before .before .before .args .reach) (widthOf (c .before .before .before .before .before .before .before .before .before .before .before .before .before .fetched .given .0 .0)) (c .before .before .before .before .before .before .before .before .before .before .before .before .before .before .before .before .before .before .before .before .before .before .loop .cells) (told saysReached (c .before .before .before .before .before .before .before .before .reach .ensures .0) (c .before .before .before .before .before .before .reached .given .1 ∙ ap reached.At (c .before .before .before .spot4 .given .1))), (c .before .before .before .before .before .before .before .before .before .before .before .before .before .before .before .before .before .before .before .before .before .before .loop .inv .0) .p-within)
 
 mul-cells-9 : tie.Need-mul-cells-9 Inv-loop μ-loop
-mul-cells-9 c = omega (arith, cell-room (c .before .before .before .before .before .before .before .before .before .before .before .before .before .before .before .before .before .before .before .before .before .before .before .before .before .before .before .before .before .args .reach) (widthOf (c .before .before .before .before .before .before .before .before .before .before .before .before .before .fetched .given .0 .0)) (c .before .before .before .before .before .before .before .before .before .before .before .before .before .before .before .before .before .before .before .before .before .before .loop .cells) (told saysReached (c .before .before .before .before .before .before .before .before .reach .ensures .0) (c .before .before .before .before .before .before .reached .given .1 ∙ ap reached.At (c .before .before .before .spot4 .given .1))), (c .before .before .before .before .before .before .before .before .before .before .before .before .before .before .before .before .before .before .before .before .before .before .loop .inv .0) .e-within)
+mul-cells-9 c = omega (arith, cell-room (c .before .before .before .before .before .before .before .before .before .before .before .before .before .before .before .before .before .before .before .before .before .before .before .before .args .reach) (widthOf (c .before .before .before .before .before .before .before .before .before .before .before .before .before .fetched .given .0 .0)) (c .before .before .before .before .before .before .before .before .before .before .before .before .before .before .before .before .before .before .before .before .before .before .loop .cells) (told saysReached (c .before .before .before .before .before .before .before .before .reach .ensures .0) (c .before .before .before .before .before .before .reached .given .1 ∙ ap reached.At (c .before .before .before .spot4 .given .1))), (c .before .before .before .before .before .before .before .before .before .before .before .before .before .before .before .before .before .before .before .before .before .before .loop .inv .0) .p-within)
 
-array-write-cells-7 : tie.Need-array-write-cells-7 Inv-loop μ-loop
-array-write-cells-7 c = omega (arith, cell-room (c .before .before .before .before .before .before .before .before .before .before .before .before .before .before .before .before .before .before .before .before .before .before .before .before .before .before .before .before .before .args .reach) (widthOf (c .before .before .before .before .before .before .before .before .before .before .before .before .before .fetched .given .0 .0)) (c .before .before .before .before .before .before .before .before .before .before .before .before .before .before .before .before .before .before .before .before .before .before .loop .cells) (told saysReached (c .before .before .before .before .before .before .before .before .reach .ensures .0) (c .before .before .before .before .before .before .reached .given .1 ∙ ap reached.At (c .before .before .before .spot4 .given .1))), (c .before .before .before .before .before .before .before .before .before .before .before .before .before .before .before .before .before .before .before .before .before .before .loop .inv .0) .e-within)
+element-write-cells-7 : tie.Need-element-write-cells-7 Inv-loop μ-loop
+element-write-cells-7 c = omega (arith, cell-room (c .before .before .before .before .before .before .before .before .before .before .before .before .before .before .before .before .before .before .before .before .before .before .before .before .args .reach) (widthOf (c .before .before .before .before .before .before .before .before .before .before .before .before .before .fetched .given .0 .0)) (c .before .before .before .before .before .before .before .before .before .before .before .before .before .before .before .before .before .before .before .before .before .before .loop .cells) (told saysReached (c .before .before .before .before .before .before .before .before .reach .ensures .0) (c .before .before .before .before .before .before .reached .given .1 ∙ ap reached.At (c .before .before .before .spot4 .given .1))), (c .before .before .before .before .before .before .before .before .before .before .before .before .before .before .before .before .before .before .before .before .before .before .loop .inv .0) .p-within)
 
 price-requires-11 : tie.Need-price-requires-11 Inv-loop μ-loop
-price-requires-11 c κs = search needs
+price-requires-11 c κs = c .before .before .before .before .before .before .before .before .before .before .before .before .before .before .before .before .before .before .before .before .before .before .loop .inv .1 .0
 
 counted-requires-12 : tie.Need-counted-requires-12 Inv-loop μ-loop
-counted-requires-12 c κs = ((found (c .before .before .before .before .before .before .before .before .before .before .before .before .before .before)) .less, ((omega (arith, (c .before .before .before .before .before .before .before .before .before .before .before .before .before .before .before .before .before .before .before .before .before .before .before .before .loop .inv .0) .priced, (c .before .before .before .before .before .before .before .before .before .before .before .before .before .before .before .before .before .before .before .before .before .before .before .before .loop .inv .0) .limit, (c .before .before .before .before .before .before .before .before .before .before .before .before .before .before .before .before .before .before .before .before .before .before .before .before .loop .inv .0) .left-within, (found (c .before .before .before .before .before .before .before .before .before .before .before .before .before .before)) .less)), c .price11 .ensures .1))
+counted-requires-12 c κs = ((found (c .before .before .before .before .before .before .before .before .before .before .before .before .before)) .less, ((omega (arith, (c .before .before .before .before .before .before .before .before .before .before .before .before .before .before .before .before .before .before .before .before .before .before .before .loop .inv .0) .priced, (c .before .before .before .before .before .before .before .before .before .before .before .before .before .before .before .before .before .before .before .before .before .before .before .loop .inv .0) .limit, (c .before .before .before .before .before .before .before .before .before .before .before .before .before .before .before .before .before .before .before .before .before .before .before .loop .inv .0) .left-within, (found (c .before .before .before .before .before .before .before .before .before .before .before .before .before)) .less)), c .price11 .ensures .1))
 
 loop-less-21 : tie.Need-loop-less-21 Inv-loop μ-loop
 loop-less-21 c = omega (arith, c .counted12 .ensures .1)
 
 loop-again-21 : tie.Need-loop-again-21 Inv-loop μ-loop
-loop-again-21 c = (goes (found (c .before .before .before .before .before .before .before .before .before .before .before .before .before .before .before)) (fetch-acts (found (c .before .before .before .before .before .before .before .before .before .before .before .before .before .before .before)) (c .before .before .before .before .before .before .before .before .before .before .before .before .before .match3 .keys7)) (told saysReached (c .before .before .before .before .before .before .before .before .before .before .before .reach .ensures .0) (c .before .before .before .before .before .before .before .before .before .reached .given .1 ∙ ap reached.At (c .before .before .before .before .before .before .spot4 .given .1))) (ap (fetchedAs (found (c .before .before .before .before .before .before .before .before .before .before .before .before .before .before .before))) (sym (c .before .before .before .cell .ensures))) refl (c .before .price11 .ensures .0) (c .counted12 .ensures .0), c .before .before .before .before .before .before .before .before .before .before .before .before .before .before .before .before .before .before .before .before .before .before .before .before .before .loop .inv .1)
+loop-again-21 c = (goes (found (c .before .before .before .before .before .before .before .before .before .before .before .before .before .before)) (fetch-acts (found (c .before .before .before .before .before .before .before .before .before .before .before .before .before .before)) (c .before .before .before .before .before .before .before .before .before .before .before .before .match3 .keys7)) (told saysReached (c .before .before .before .before .before .before .before .before .before .before .reach .ensures .0) (c .before .before .before .before .before .before .before .before .reached .given .1 ∙ ap reached.At (c .before .before .before .before .before .spot4 .given .1))) (ap (fetchedAs (found (c .before .before .before .before .before .before .before .before .before .before .before .before .before .before))) (sym (c .before .before .cell .ensures (c .before .before .before .before .before .before .before .before .before .before .before .before .before .before .before .before .before .before .before .before .before .before .before .before .loop .copies)))) refl (c .before .price11 .ensures .0) (c .counted12 .ensures .0), (c .before .before .before .before .before .before .before .before .before .before .before .before .before .before .before .before .before .before .before .before .before .before .before .before .loop .inv .1))
 
 reach-requires-2 : tie.Need-reach-requires-2 Inv-loop μ-loop
-reach-requires-2 c κs = (omega arith, ((c .before .before .before .before .before .before .before .before .before .before .before .before .before .loop .inv .0) .p-within, c .before .before .before .before .before .before .before .before .before .before .before .before .before .before .before .before .before .before .before .before .pre .1 .shared-within))
+reach-requires-2 c κs = (omega arith, ((c .before .before .before .before .before .before .before .before .before .before .before .before .before .loop .inv .0) .p-within, c .before .before .before .before .before .before .before .before .before .before .before .before .before .before .before .pre .bounded .shared-within))
 
 enum-known-reached-2 : tie.Need-enum-known-reached-2 Inv-loop μ-loop
 enum-known-reached-2 c = search needs
@@ -628,28 +594,28 @@ loop-less-22 : tie.Need-loop-less-22 Inv-loop μ-loop
 loop-less-22 c = halted-less (c .before .before .before .before .before .before .before .before .before .before .before .before .before .before .before .before .before .loop .regs) (c .by-reach2 .ensures) (ap saysReached (c .before .enum-told14 .given .1)) ((found (c .before .before .before .before .before .before .before)) .less)
 
 loop-again-22 : tie.Need-loop-again-22 Inv-loop μ-loop
-loop-again-22 c = (ends (found (c .before .before .before .before .before .before .before)) (store-acts (found (c .before .before .before .before .before .before .before)) (c .before .before .before .before .before .match3 .keys8)) (told saysReached (c .before .before .before .reach2 .ensures .0) (c .before .enum-told14 .given .1)) (c .before .before .before .reach2 .ensures .0) (c .by-reach2 .ensures), c .before .before .before .before .before .before .before .before .before .before .before .before .before .before .before .before .before .loop .inv .1)
+loop-again-22 c = (ends (found (c .before .before .before .before .before .before .before)) (store-acts (found (c .before .before .before .before .before .before .before)) (c .before .before .before .before .before .match3 .keys8)) (told saysReached (c .before .before .before .reach2 .ensures .0) (c .before .enum-told14 .given .1)) (c .before .before .before .reach2 .ensures .0) (c .by-reach2 .ensures), (c .before .before .before .before .before .before .before .before .before .before .before .before .before .before .before .before .before .loop .inv .1))
 
 enum-known-spot-5 : tie.Need-enum-known-spot-5 Inv-loop μ-loop
 enum-known-spot-5 c = search needs
 
 sub-write-number : tie.Need-sub-write-number Inv-loop μ-loop
-sub-write-number c = omega (arith, memory-room (c .before .before .before .before .before .before .before .before .before .before .before .before .before .before .before .before .before .before .before .before .before .before .before .before .before .before .before .before .args .reach) (widthOf (c .before .before .before .before .before .before .before .before .before .before .before .before .fetched .given .0 .0)) (c .before .before .before .before .before .before .before .before .before .before .before .before .before .before .before .before .before .before .before .before .before .loop .cells) (told saysReached (c .before .before .before .before .before .before .before .reach2 .ensures .0) (c .before .before .before .before .before .reached2 .given .1 ∙ ap reached.At (c .before .before .spot5 .given .1))))
+sub-write-number c = omega (arith, memory-room (c .before .before .before .before .before .before .before .before .before .before .before .before .before .before .before .before .before .before .before .before .before .before .before .args .reach) (widthOf (c .before .before .before .before .before .before .before .before .before .before .before .before .fetched .given .0 .0)) (c .before .before .before .before .before .before .before .before .before .before .before .before .before .before .before .before .before .before .before .before .before .loop .cells) (told saysReached (c .before .before .before .before .before .before .before .reach2 .ensures .0) (c .before .before .before .before .before .reached2 .given .1 ∙ ap reached.At (c .before .before .spot5 .given .1))))
 
 mul-write-number : tie.Need-mul-write-number Inv-loop μ-loop
-mul-write-number c = omega (arith, memory-room (c .before .before .before .before .before .before .before .before .before .before .before .before .before .before .before .before .before .before .before .before .before .before .before .before .before .before .before .before .args .reach) (widthOf (c .before .before .before .before .before .before .before .before .before .before .before .before .fetched .given .0 .0)) (c .before .before .before .before .before .before .before .before .before .before .before .before .before .before .before .before .before .before .before .before .before .loop .cells) (told saysReached (c .before .before .before .before .before .before .before .reach2 .ensures .0) (c .before .before .before .before .before .reached2 .given .1 ∙ ap reached.At (c .before .before .spot5 .given .1))))
+mul-write-number c = omega (arith, memory-room (c .before .before .before .before .before .before .before .before .before .before .before .before .before .before .before .before .before .before .before .before .before .before .before .args .reach) (widthOf (c .before .before .before .before .before .before .before .before .before .before .before .before .fetched .given .0 .0)) (c .before .before .before .before .before .before .before .before .before .before .before .before .before .before .before .before .before .before .before .before .before .loop .cells) (told saysReached (c .before .before .before .before .before .before .before .reach2 .ensures .0) (c .before .before .before .before .before .reached2 .given .1 ∙ ap reached.At (c .before .before .spot5 .given .1))))
 
-array-read-write-number : tie.Need-array-read-write-number Inv-loop μ-loop
-array-read-write-number c = omega (arith, memory-room (c .before .before .before .before .before .before .before .before .before .before .before .before .before .before .before .before .before .before .before .before .before .before .before .before .before .before .before .before .args .reach) (widthOf (c .before .before .before .before .before .before .before .before .before .before .before .before .fetched .given .0 .0)) (c .before .before .before .before .before .before .before .before .before .before .before .before .before .before .before .before .before .before .before .before .before .loop .cells) (told saysReached (c .before .before .before .before .before .before .before .reach2 .ensures .0) (c .before .before .before .before .before .reached2 .given .1 ∙ ap reached.At (c .before .before .spot5 .given .1))))
+element-copy-out-write-number : tie.Need-element-copy-out-write-number Inv-loop μ-loop
+element-copy-out-write-number c = omega (arith, memory-room (c .before .before .before .before .before .before .before .before .before .before .before .before .before .before .before .before .before .before .before .before .before .before .before .args .reach) (widthOf (c .before .before .before .before .before .before .before .before .before .before .before .before .fetched .given .0 .0)) (c .before .before .before .before .before .before .before .before .before .before .before .before .before .before .before .before .before .before .before .before .before .loop .cells) (told saysReached (c .before .before .before .before .before .before .before .reach2 .ensures .0) (c .before .before .before .before .before .reached2 .given .1 ∙ ap reached.At (c .before .before .spot5 .given .1))))
 
 write-number-requires : tie.Need-write-number-requires Inv-loop μ-loop
-write-number-requires c κs = omega (arith, memory-room (c .before .before .before .before .before .before .before .before .before .before .before .before .before .before .before .before .before .before .before .before .before .before .before .before .before .before .before .before .args .reach) (widthOf (c .before .before .before .before .before .before .before .before .before .before .before .before .fetched .given .0 .0)) (c .before .before .before .before .before .before .before .before .before .before .before .before .before .before .before .before .before .before .before .before .before .loop .cells) (told saysReached (c .before .before .before .before .before .before .before .reach2 .ensures .0) (c .before .before .before .before .before .reached2 .given .1 ∙ ap reached.At (c .before .before .spot5 .given .1))), (c .before .before .before .before .before .before .before .before .before .before .before .before .before .before .before .before .before .before .before .before .before .loop .inv .0) .long)
+write-number-requires c κs = omega (arith, memory-room (c .before .before .before .before .before .before .before .before .before .before .before .before .before .before .before .before .before .before .before .before .before .before .before .before .args .reach) (widthOf (c .before .before .before .before .before .before .before .before .before .before .before .before .before .fetched .given .0 .0)) (c .before .before .before .before .before .before .before .before .before .before .before .before .before .before .before .before .before .before .before .before .before .before .loop .cells) (told saysReached (c .before .before .before .before .before .before .before .before .reach2 .ensures .0) (c .before .before .before .before .before .before .reached2 .given .1 ∙ ap reached.At (c .before .before .before .spot5 .given .1))), (c .before .before .before .before .before .before .before .before .before .before .before .before .before .before .before .before .before .before .before .before .before .before .loop .inv .0) .long)
 
 sub-regs-6 : tie.Need-sub-regs-6 Inv-loop μ-loop
-sub-regs-6 c = omega (arith, memory-room (c .before .before .before .before .before .before .before .before .before .before .before .before .before .before .before .before .before .before .before .before .before .before .before .before .before .before .before .before .before .before .before .args .reach) (widthOf (c .before .before .before .before .before .before .before .before .before .before .before .before .before .before .before .fetched .given .0 .0)) (c .before .before .before .before .before .before .before .before .before .before .before .before .before .before .before .before .before .before .before .before .before .before .before .before .loop .cells) (told saysReached (c .before .before .before .before .before .before .before .before .before .before .reach2 .ensures .0) (c .before .before .before .before .before .before .before .before .reached2 .given .1 ∙ ap reached.At (c .before .before .before .before .before .spot5 .given .1))))
+sub-regs-6 c = omega (arith, memory-room (c .before .before .before .before .before .before .before .before .before .before .before .before .before .before .before .before .before .before .before .before .before .before .before .before .before .before .before .args .reach) (widthOf (c .before .before .before .before .before .before .before .before .before .before .before .before .before .before .before .before .fetched .given .0 .0)) (c .before .before .before .before .before .before .before .before .before .before .before .before .before .before .before .before .before .before .before .before .before .before .before .before .before .loop .cells) (told saysReached (c .before .before .before .before .before .before .before .before .before .before .before .reach2 .ensures .0) (c .before .before .before .before .before .before .before .before .before .reached2 .given .1 ∙ ap reached.At (c .before .before .before .before .before .before .spot5 .given .1))))
 
 price-requires-12 : tie.Need-price-requires-12 Inv-loop μ-loop
-price-requires-12 c κs = search needs
+price-requires-12 c κs = c .before .before .before .before .before .before .before .before .before .before .before .before .before .before .before .before .before .before .before .before .before .before .before .before .before .loop .inv .1 .0
 
 counted-requires-13 : tie.Need-counted-requires-13 Inv-loop μ-loop
 counted-requires-13 c κs = ((found (c .before .before .before .before .before .before .before .before .before .before .before .before .before .before .before .before)) .less, ((omega (arith, (c .before .before .before .before .before .before .before .before .before .before .before .before .before .before .before .before .before .before .before .before .before .before .before .before .before .before .loop .inv .0) .priced, (c .before .before .before .before .before .before .before .before .before .before .before .before .before .before .before .before .before .before .before .before .before .before .before .before .before .before .loop .inv .0) .limit, (c .before .before .before .before .before .before .before .before .before .before .before .before .before .before .before .before .before .before .before .before .before .before .before .before .before .before .loop .inv .0) .left-within, (found (c .before .before .before .before .before .before .before .before .before .before .before .before .before .before .before .before)) .less)), c .price12 .ensures .1))
@@ -658,28 +624,28 @@ loop-less-23 : tie.Need-loop-less-23 Inv-loop μ-loop
 loop-less-23 c = omega (arith, c .counted13 .ensures .1)
 
 loop-again-23 : tie.Need-loop-again-23 Inv-loop μ-loop
-loop-again-23 c = (goes (found (c .before .before .before .before .before .before .before .before .before .before .before .before .before .before .before .before .before)) (store-acts (found (c .before .before .before .before .before .before .before .before .before .before .before .before .before .before .before .before .before)) (c .before .before .before .before .before .before .before .before .before .before .before .before .before .before .before .match3 .keys8)) (told saysReached (c .before .before .before .before .before .before .before .before .before .before .before .before .before .reach2 .ensures .0) (c .before .before .before .before .before .before .before .before .before .before .before .reached2 .given .1 ∙ ap reached.At (c .before .before .before .before .before .before .before .before .spot5 .given .1))) (written-there (found (c .before .before .before .before .before .before .before .before .before .before .before .before .before .before .before .before .before)) (widthOf (c .before .before .before .before .before .before .before .before .before .before .before .before .before .before .before .before .before .before .fetched .given .0 .0)) (c .before .before .before .before .before .before .before .before .spot5 .given .0 .0) (c .before .before .before .before .before .write-number .ensures)) refl (c .before .price12 .ensures .0) (c .counted13 .ensures .0), c .before .before .before .before .before .before .before .before .before .before .before .before .before .before .before .before .before .before .before .before .before .before .before .before .before .before .before .loop .inv .1)
+loop-again-23 c = (goes (found (c .before .before .before .before .before .before .before .before .before .before .before .before .before .before .before .before .before)) (store-acts (found (c .before .before .before .before .before .before .before .before .before .before .before .before .before .before .before .before .before)) (c .before .before .before .before .before .before .before .before .before .before .before .before .before .before .before .match3 .keys8)) (told saysReached (c .before .before .before .before .before .before .before .before .before .before .before .before .before .reach2 .ensures .0) (c .before .before .before .before .before .before .before .before .before .before .before .reached2 .given .1 ∙ ap reached.At (c .before .before .before .before .before .before .before .before .spot5 .given .1))) (written-there (found (c .before .before .before .before .before .before .before .before .before .before .before .before .before .before .before .before .before)) (widthOf (c .before .before .before .before .before .before .before .before .before .before .before .before .before .before .before .before .before .before .fetched .given .0 .0)) (c .before .before .before .before .before .before .before .before .spot5 .given .0 .0) (c .before .before .before .before .write-number .ensures)) refl (c .before .price12 .ensures .0) (c .counted13 .ensures .0), (c .before .before .before .before .before .before .before .before .before .before .before .before .before .before .before .before .before .before .before .before .before .before .before .before .before .before .before .loop .inv .1))
 
 enum-known-spot-6 : tie.Need-enum-known-spot-6 Inv-loop μ-loop
 enum-known-spot-6 c = search needs
 
 sub-write-own : tie.Need-sub-write-own Inv-loop μ-loop
-sub-write-own c = omega (arith, memory-room (c .before .before .before .before .before .before .before .before .before .before .before .before .before .before .before .before .before .before .before .before .before .before .before .before .before .before .before .before .args .reach) (widthOf (c .before .before .before .before .before .before .before .before .before .before .before .before .fetched .given .0 .0)) (c .before .before .before .before .before .before .before .before .before .before .before .before .before .before .before .before .before .before .before .before .before .loop .cells) (told saysReached (c .before .before .before .before .before .before .before .reach2 .ensures .0) (c .before .before .before .before .before .reached2 .given .1 ∙ ap reached.At (c .before .before .spot6 .given .1))))
+sub-write-own c = omega (arith, memory-room (c .before .before .before .before .before .before .before .before .before .before .before .before .before .before .before .before .before .before .before .before .before .before .before .args .reach) (widthOf (c .before .before .before .before .before .before .before .before .before .before .before .before .fetched .given .0 .0)) (c .before .before .before .before .before .before .before .before .before .before .before .before .before .before .before .before .before .before .before .before .before .loop .cells) (told saysReached (c .before .before .before .before .before .before .before .reach2 .ensures .0) (c .before .before .before .before .before .reached2 .given .1 ∙ ap reached.At (c .before .before .spot6 .given .1))))
 
 mul-write-own : tie.Need-mul-write-own Inv-loop μ-loop
-mul-write-own c = omega (arith, memory-room (c .before .before .before .before .before .before .before .before .before .before .before .before .before .before .before .before .before .before .before .before .before .before .before .before .before .before .before .before .args .reach) (widthOf (c .before .before .before .before .before .before .before .before .before .before .before .before .fetched .given .0 .0)) (c .before .before .before .before .before .before .before .before .before .before .before .before .before .before .before .before .before .before .before .before .before .loop .cells) (told saysReached (c .before .before .before .before .before .before .before .reach2 .ensures .0) (c .before .before .before .before .before .reached2 .given .1 ∙ ap reached.At (c .before .before .spot6 .given .1))))
+mul-write-own c = omega (arith, memory-room (c .before .before .before .before .before .before .before .before .before .before .before .before .before .before .before .before .before .before .before .before .before .before .before .args .reach) (widthOf (c .before .before .before .before .before .before .before .before .before .before .before .before .fetched .given .0 .0)) (c .before .before .before .before .before .before .before .before .before .before .before .before .before .before .before .before .before .before .before .before .before .loop .cells) (told saysReached (c .before .before .before .before .before .before .before .reach2 .ensures .0) (c .before .before .before .before .before .reached2 .given .1 ∙ ap reached.At (c .before .before .spot6 .given .1))))
 
-array-read-write-own : tie.Need-array-read-write-own Inv-loop μ-loop
-array-read-write-own c = omega (arith, memory-room (c .before .before .before .before .before .before .before .before .before .before .before .before .before .before .before .before .before .before .before .before .before .before .before .before .before .before .before .before .args .reach) (widthOf (c .before .before .before .before .before .before .before .before .before .before .before .before .fetched .given .0 .0)) (c .before .before .before .before .before .before .before .before .before .before .before .before .before .before .before .before .before .before .before .before .before .loop .cells) (told saysReached (c .before .before .before .before .before .before .before .reach2 .ensures .0) (c .before .before .before .before .before .reached2 .given .1 ∙ ap reached.At (c .before .before .spot6 .given .1))))
+element-copy-out-write-own : tie.Need-element-copy-out-write-own Inv-loop μ-loop
+element-copy-out-write-own c = omega (arith, memory-room (c .before .before .before .before .before .before .before .before .before .before .before .before .before .before .before .before .before .before .before .before .before .before .before .args .reach) (widthOf (c .before .before .before .before .before .before .before .before .before .before .before .before .fetched .given .0 .0)) (c .before .before .before .before .before .before .before .before .before .before .before .before .before .before .before .before .before .before .before .before .before .loop .cells) (told saysReached (c .before .before .before .before .before .before .before .reach2 .ensures .0) (c .before .before .before .before .before .reached2 .given .1 ∙ ap reached.At (c .before .before .spot6 .given .1))))
 
 write-own-requires : tie.Need-write-own-requires Inv-loop μ-loop
-write-own-requires c κs = ((own-room (c .before .before .before .before .before .before .before .before .before .before .before .before .before .before .before .before .before .before .before .before .before .before .before .before .before .before .before .before .args .reach) (widthOf (c .before .before .before .before .before .before .before .before .before .before .before .before .fetched .given .0 .0)) (c .before .before .before .before .before .before .before .reach2 .ensures .1) (c .before .before .before .before .before .reached2 .given .1 ∙ ap reached.At (c .before .before .spot6 .given .1))) .0, ((own-room (c .before .before .before .before .before .before .before .before .before .before .before .before .before .before .before .before .before .before .before .before .before .before .before .before .before .before .before .before .args .reach) (widthOf (c .before .before .before .before .before .before .before .before .before .before .before .before .fetched .given .0 .0)) (c .before .before .before .before .before .before .before .reach2 .ensures .1) (c .before .before .before .before .before .reached2 .given .1 ∙ ap reached.At (c .before .before .spot6 .given .1))) .1, omega (arith, c .before .before .before .before .before .before .before .before .before .before .before .before .before .before .before .before .before .before .before .before .before .before .before .before .before .before .before .before .pre .1 .end-within, (c .before .before .before .before .before .before .before .before .before .before .before .before .before .before .before .before .before .before .before .before .before .loop .inv .0) .long)))
+write-own-requires c κs = ((own-room (c .before .before .before .before .before .before .before .before .before .before .before .before .before .before .before .before .before .before .before .before .before .before .before .before .args .reach) (widthOf (c .before .before .before .before .before .before .before .before .before .before .before .before .before .fetched .given .0 .0)) (c .before .before .before .before .before .before .before .before .reach2 .ensures .1) (c .before .before .before .before .before .before .reached2 .given .1 ∙ ap reached.At (c .before .before .before .spot6 .given .1))) .0, ((own-room (c .before .before .before .before .before .before .before .before .before .before .before .before .before .before .before .before .before .before .before .before .before .before .before .before .args .reach) (widthOf (c .before .before .before .before .before .before .before .before .before .before .before .before .before .fetched .given .0 .0)) (c .before .before .before .before .before .before .before .before .reach2 .ensures .1) (c .before .before .before .before .before .before .reached2 .given .1 ∙ ap reached.At (c .before .before .before .spot6 .given .1))) .1, omega (arith, c .before .before .before .before .before .before .before .before .before .before .before .before .before .before .before .before .before .before .before .before .before .before .before .before .pre .bounded .end-within, (c .before .before .before .before .before .before .before .before .before .before .before .before .before .before .before .before .before .before .before .before .before .before .loop .inv .0) .long)))
 
 sub-regs-7 : tie.Need-sub-regs-7 Inv-loop μ-loop
-sub-regs-7 c = omega (arith, memory-room (c .before .before .before .before .before .before .before .before .before .before .before .before .before .before .before .before .before .before .before .before .before .before .before .before .before .before .before .before .before .before .before .args .reach) (widthOf (c .before .before .before .before .before .before .before .before .before .before .before .before .before .before .before .fetched .given .0 .0)) (c .before .before .before .before .before .before .before .before .before .before .before .before .before .before .before .before .before .before .before .before .before .before .before .before .loop .cells) (told saysReached (c .before .before .before .before .before .before .before .before .before .before .reach2 .ensures .0) (c .before .before .before .before .before .before .before .before .reached2 .given .1 ∙ ap reached.At (c .before .before .before .before .before .spot6 .given .1))))
+sub-regs-7 c = omega (arith, memory-room (c .before .before .before .before .before .before .before .before .before .before .before .before .before .before .before .before .before .before .before .before .before .before .before .before .before .before .before .args .reach) (widthOf (c .before .before .before .before .before .before .before .before .before .before .before .before .before .before .before .before .fetched .given .0 .0)) (c .before .before .before .before .before .before .before .before .before .before .before .before .before .before .before .before .before .before .before .before .before .before .before .before .before .loop .cells) (told saysReached (c .before .before .before .before .before .before .before .before .before .before .before .reach2 .ensures .0) (c .before .before .before .before .before .before .before .before .before .reached2 .given .1 ∙ ap reached.At (c .before .before .before .before .before .before .spot6 .given .1))))
 
 price-requires-13 : tie.Need-price-requires-13 Inv-loop μ-loop
-price-requires-13 c κs = search needs
+price-requires-13 c κs = c .before .before .before .before .before .before .before .before .before .before .before .before .before .before .before .before .before .before .before .before .before .before .before .before .before .loop .inv .1 .0
 
 counted-requires-14 : tie.Need-counted-requires-14 Inv-loop μ-loop
 counted-requires-14 c κs = ((found (c .before .before .before .before .before .before .before .before .before .before .before .before .before .before .before .before)) .less, ((omega (arith, (c .before .before .before .before .before .before .before .before .before .before .before .before .before .before .before .before .before .before .before .before .before .before .before .before .before .before .loop .inv .0) .priced, (c .before .before .before .before .before .before .before .before .before .before .before .before .before .before .before .before .before .before .before .before .before .before .before .before .before .before .loop .inv .0) .limit, (c .before .before .before .before .before .before .before .before .before .before .before .before .before .before .before .before .before .before .before .before .before .before .before .before .before .before .loop .inv .0) .left-within, (found (c .before .before .before .before .before .before .before .before .before .before .before .before .before .before .before .before)) .less)), c .price13 .ensures .1))
@@ -688,40 +654,28 @@ loop-less-24 : tie.Need-loop-less-24 Inv-loop μ-loop
 loop-less-24 c = omega (arith, c .counted14 .ensures .1)
 
 loop-again-24 : tie.Need-loop-again-24 Inv-loop μ-loop
-loop-again-24 c = (goes (found (c .before .before .before .before .before .before .before .before .before .before .before .before .before .before .before .before .before)) (store-acts (found (c .before .before .before .before .before .before .before .before .before .before .before .before .before .before .before .before .before)) (c .before .before .before .before .before .before .before .before .before .before .before .before .before .before .before .match3 .keys8)) (told saysReached (c .before .before .before .before .before .before .before .before .before .before .before .before .before .reach2 .ensures .0) (c .before .before .before .before .before .before .before .before .before .before .before .reached2 .given .1 ∙ ap reached.At (c .before .before .before .before .before .before .before .before .spot6 .given .1))) (written-there (found (c .before .before .before .before .before .before .before .before .before .before .before .before .before .before .before .before .before)) (widthOf (c .before .before .before .before .before .before .before .before .before .before .before .before .before .before .before .before .before .before .fetched .given .0 .0)) (c .before .before .before .before .before .before .before .before .spot6 .given .0 .0) (c .before .before .before .before .before .write-own .ensures)) refl (c .before .price13 .ensures .0) (c .counted14 .ensures .0), c .before .before .before .before .before .before .before .before .before .before .before .before .before .before .before .before .before .before .before .before .before .before .before .before .before .before .before .loop .inv .1)
+loop-again-24 c = (goes (found (c .before .before .before .before .before .before .before .before .before .before .before .before .before .before .before .before .before)) (store-acts (found (c .before .before .before .before .before .before .before .before .before .before .before .before .before .before .before .before .before)) (c .before .before .before .before .before .before .before .before .before .before .before .before .before .before .before .match3 .keys8)) (told saysReached (c .before .before .before .before .before .before .before .before .before .before .before .before .before .reach2 .ensures .0) (c .before .before .before .before .before .before .before .before .before .before .before .reached2 .given .1 ∙ ap reached.At (c .before .before .before .before .before .before .before .before .spot6 .given .1))) (written-there (found (c .before .before .before .before .before .before .before .before .before .before .before .before .before .before .before .before .before)) (widthOf (c .before .before .before .before .before .before .before .before .before .before .before .before .before .before .before .before .before .before .fetched .given .0 .0)) (c .before .before .before .before .before .before .before .before .spot6 .given .0 .0) (c .before .before .before .before .write-own .ensures)) refl (c .before .price13 .ensures .0) (c .counted14 .ensures .0), (c .before .before .before .before .before .before .before .before .before .before .before .before .before .before .before .before .before .before .before .before .before .before .before .before .before .before .before .loop .inv .1))
 
 enum-known-spot-7 : tie.Need-enum-known-spot-7 Inv-loop μ-loop
 enum-known-spot-7 c = search needs
 
-mul-frame-4 : tie.Need-mul-frame-4 Inv-loop μ-loop
-mul-frame-4 c = search needs
+sub-set-local : tie.Need-sub-set-local Inv-loop μ-loop
+sub-set-local c = omega (arith, local-room (c .before .before .before .before .before .before .before .before .before .before .before .before .before .before .before .before .before .before .before .before .before .before .before .args .reach) (widthOf (c .before .before .before .before .before .before .before .before .before .before .before .before .fetched .given .0 .0)) (c .before .before .before .before .before .before .before .before .before .before .before .before .before .before .before .before .before .before .before .before .before .loop .cells) (told saysReached (c .before .before .before .before .before .before .before .reach2 .ensures .0) (c .before .before .before .before .before .reached2 .given .1 ∙ ap reached.At (c .before .before .spot7 .given .1))), (c .before .before .before .before .before .before .before .before .before .before .before .before .before .before .before .before .before .before .before .before .before .loop .inv .0) .p-within)
 
-array-copy-out-frame-4 : tie.Need-array-copy-out-frame-4 Inv-loop μ-loop
-array-copy-out-frame-4 c = search needs
+mul-set-local : tie.Need-mul-set-local Inv-loop μ-loop
+mul-set-local c = omega (arith, local-room (c .before .before .before .before .before .before .before .before .before .before .before .before .before .before .before .before .before .before .before .before .before .before .before .args .reach) (widthOf (c .before .before .before .before .before .before .before .before .before .before .before .before .fetched .given .0 .0)) (c .before .before .before .before .before .before .before .before .before .before .before .before .before .before .before .before .before .before .before .before .before .loop .cells) (told saysReached (c .before .before .before .before .before .before .before .reach2 .ensures .0) (c .before .before .before .before .before .reached2 .given .1 ∙ ap reached.At (c .before .before .spot7 .given .1))), (c .before .before .before .before .before .before .before .before .before .before .before .before .before .before .before .before .before .before .before .before .before .loop .inv .0) .p-within)
 
-sub-with-local : tie.Need-sub-with-local Inv-loop μ-loop
-sub-with-local c = omega (arith, local-room (c .before .before .before .before .before .before .before .before .before .before .before .before .before .before .before .before .before .before .before .before .before .before .before .before .before .before .before .before .args .reach) (widthOf (c .before .before .before .before .before .before .before .before .before .before .before .before .fetched .given .0 .0)) (c .before .before .before .before .before .before .before .before .before .before .before .before .before .before .before .before .before .before .before .before .before .loop .cells) (told saysReached (c .before .before .before .before .before .before .before .reach2 .ensures .0) (c .before .before .before .before .before .reached2 .given .1 ∙ ap reached.At (c .before .before .spot7 .given .1))), (c .before .before .before .before .before .before .before .before .before .before .before .before .before .before .before .before .before .before .before .before .before .loop .inv .0) .s-within)
+element-copy-out-set-local : tie.Need-element-copy-out-set-local Inv-loop μ-loop
+element-copy-out-set-local c = omega (arith, local-room (c .before .before .before .before .before .before .before .before .before .before .before .before .before .before .before .before .before .before .before .before .before .before .before .args .reach) (widthOf (c .before .before .before .before .before .before .before .before .before .before .before .before .fetched .given .0 .0)) (c .before .before .before .before .before .before .before .before .before .before .before .before .before .before .before .before .before .before .before .before .before .loop .cells) (told saysReached (c .before .before .before .before .before .before .before .reach2 .ensures .0) (c .before .before .before .before .before .reached2 .given .1 ∙ ap reached.At (c .before .before .spot7 .given .1))), (c .before .before .before .before .before .before .before .before .before .before .before .before .before .before .before .before .before .before .before .before .before .loop .inv .0) .p-within)
 
-mul-with-local : tie.Need-mul-with-local Inv-loop μ-loop
-mul-with-local c = omega (arith, local-room (c .before .before .before .before .before .before .before .before .before .before .before .before .before .before .before .before .before .before .before .before .before .before .before .before .before .before .before .before .args .reach) (widthOf (c .before .before .before .before .before .before .before .before .before .before .before .before .fetched .given .0 .0)) (c .before .before .before .before .before .before .before .before .before .before .before .before .before .before .before .before .before .before .before .before .before .loop .cells) (told saysReached (c .before .before .before .before .before .before .before .reach2 .ensures .0) (c .before .before .before .before .before .reached2 .given .1 ∙ ap reached.At (c .before .before .spot7 .given .1))), (c .before .before .before .before .before .before .before .before .before .before .before .before .before .before .before .before .before .before .before .before .before .loop .inv .0) .s-within)
-
-array-read-with-local : tie.Need-array-read-with-local Inv-loop μ-loop
-array-read-with-local c = omega (arith, local-room (c .before .before .before .before .before .before .before .before .before .before .before .before .before .before .before .before .before .before .before .before .before .before .before .before .before .before .before .before .args .reach) (widthOf (c .before .before .before .before .before .before .before .before .before .before .before .before .fetched .given .0 .0)) (c .before .before .before .before .before .before .before .before .before .before .before .before .before .before .before .before .before .before .before .before .before .loop .cells) (told saysReached (c .before .before .before .before .before .before .before .reach2 .ensures .0) (c .before .before .before .before .before .reached2 .given .1 ∙ ap reached.At (c .before .before .spot7 .given .1))), (c .before .before .before .before .before .before .before .before .before .before .before .before .before .before .before .before .before .before .before .before .before .loop .inv .0) .s-within)
-
-with-local-requires : tie.Need-with-local-requires Inv-loop μ-loop
-with-local-requires c κs = omega (arith, local-room (c .before .before .before .before .before .before .before .before .before .before .before .before .before .before .before .before .before .before .before .before .before .before .before .before .before .before .before .before .args .reach) (widthOf (c .before .before .before .before .before .before .before .before .before .before .before .before .fetched .given .0 .0)) (c .before .before .before .before .before .before .before .before .before .before .before .before .before .before .before .before .before .before .before .before .before .loop .cells) (told saysReached (c .before .before .before .before .before .before .before .reach2 .ensures .0) (c .before .before .before .before .before .reached2 .given .1 ∙ ap reached.At (c .before .before .spot7 .given .1))))
-
-mul-frames-2 : tie.Need-mul-frames-2 Inv-loop μ-loop
-mul-frames-2 c = omega (arith, local-room (c .before .before .before .before .before .before .before .before .before .before .before .before .before .before .before .before .before .before .before .before .before .before .before .before .before .before .before .before .before .args .reach) (widthOf (c .before .before .before .before .before .before .before .before .before .before .before .before .before .fetched .given .0 .0)) (c .before .before .before .before .before .before .before .before .before .before .before .before .before .before .before .before .before .before .before .before .before .before .loop .cells) (told saysReached (c .before .before .before .before .before .before .before .before .reach2 .ensures .0) (c .before .before .before .before .before .before .reached2 .given .1 ∙ ap reached.At (c .before .before .before .spot7 .given .1))), (c .before .before .before .before .before .before .before .before .before .before .before .before .before .before .before .before .before .before .before .before .before .before .loop .inv .0) .s-within)
-
-array-set-from-frames-2 : tie.Need-array-set-from-frames-2 Inv-loop μ-loop
-array-set-from-frames-2 c = omega (arith, local-room (c .before .before .before .before .before .before .before .before .before .before .before .before .before .before .before .before .before .before .before .before .before .before .before .before .before .before .before .before .before .args .reach) (widthOf (c .before .before .before .before .before .before .before .before .before .before .before .before .before .fetched .given .0 .0)) (c .before .before .before .before .before .before .before .before .before .before .before .before .before .before .before .before .before .before .before .before .before .before .loop .cells) (told saysReached (c .before .before .before .before .before .before .before .before .reach2 .ensures .0) (c .before .before .before .before .before .before .reached2 .given .1 ∙ ap reached.At (c .before .before .before .spot7 .given .1))), (c .before .before .before .before .before .before .before .before .before .before .before .before .before .before .before .before .before .before .before .before .before .before .loop .inv .0) .s-within)
+set-local-requires : tie.Need-set-local-requires Inv-loop μ-loop
+set-local-requires c κs = (omega (arith, (c .before .before .before .before .before .before .before .before .before .before .before .before .before .before .before .before .before .before .before .before .before .before .loop .inv .0) .s-within), omega (arith, local-room (c .before .before .before .before .before .before .before .before .before .before .before .before .before .before .before .before .before .before .before .before .before .before .before .before .args .reach) (widthOf (c .before .before .before .before .before .before .before .before .before .before .before .before .before .fetched .given .0 .0)) (c .before .before .before .before .before .before .before .before .before .before .before .before .before .before .before .before .before .before .before .before .before .before .loop .cells) (told saysReached (c .before .before .before .before .before .before .before .before .reach2 .ensures .0) (c .before .before .before .before .before .before .reached2 .given .1 ∙ ap reached.At (c .before .before .before .spot7 .given .1)))))
 
 sub-regs-8 : tie.Need-sub-regs-8 Inv-loop μ-loop
-sub-regs-8 c = omega (arith, local-room (c .before .before .before .before .before .before .before .before .before .before .before .before .before .before .before .before .before .before .before .before .before .before .before .before .before .before .before .before .before .args .reach) (widthOf (c .before .before .before .before .before .before .before .before .before .before .before .before .before .fetched .given .0 .0)) (c .before .before .before .before .before .before .before .before .before .before .before .before .before .before .before .before .before .before .before .before .before .before .loop .cells) (told saysReached (c .before .before .before .before .before .before .before .before .reach2 .ensures .0) (c .before .before .before .before .before .before .reached2 .given .1 ∙ ap reached.At (c .before .before .before .spot7 .given .1))), (c .before .before .before .before .before .before .before .before .before .before .before .before .before .before .before .before .before .before .before .before .before .before .loop .inv .0) .s-within)
+sub-regs-8 c = omega (arith, local-room (c .before .before .before .before .before .before .before .before .before .before .before .before .before .before .before .before .before .before .before .before .before .before .before .before .before .args .reach) (widthOf (c .before .before .before .before .before .before .before .before .before .before .before .before .before .before .fetched .given .0 .0)) (c .before .before .before .before .before .before .before .before .before .before .before .before .before .before .before .before .before .before .before .before .before .before .before .loop .cells) (told saysReached (c .before .before .before .before .before .before .before .before .before .reach2 .ensures .0) (c .before .before .before .before .before .before .before .reached2 .given .1 ∙ ap reached.At (c .before .before .before .before .spot7 .given .1))), (c .before .before .before .before .before .before .before .before .before .before .before .before .before .before .before .before .before .before .before .before .before .before .before .loop .inv .0) .p-within)
 
 price-requires-14 : tie.Need-price-requires-14 Inv-loop μ-loop
-price-requires-14 c κs = search needs
+price-requires-14 c κs = c .before .before .before .before .before .before .before .before .before .before .before .before .before .before .before .before .before .before .before .before .before .before .before .loop .inv .1 .0
 
 counted-requires-15 : tie.Need-counted-requires-15 Inv-loop μ-loop
 counted-requires-15 c κs = ((found (c .before .before .before .before .before .before .before .before .before .before .before .before .before .before)) .less, ((omega (arith, (c .before .before .before .before .before .before .before .before .before .before .before .before .before .before .before .before .before .before .before .before .before .before .before .before .loop .inv .0) .priced, (c .before .before .before .before .before .before .before .before .before .before .before .before .before .before .before .before .before .before .before .before .before .before .before .before .loop .inv .0) .limit, (c .before .before .before .before .before .before .before .before .before .before .before .before .before .before .before .before .before .before .before .before .before .before .before .before .loop .inv .0) .left-within, (found (c .before .before .before .before .before .before .before .before .before .before .before .before .before .before)) .less)), c .price14 .ensures .1))
@@ -730,40 +684,28 @@ loop-less-25 : tie.Need-loop-less-25 Inv-loop μ-loop
 loop-less-25 c = omega (arith, c .counted15 .ensures .1)
 
 loop-again-25 : tie.Need-loop-again-25 Inv-loop μ-loop
-loop-again-25 c = (goes (found (c .before .before .before .before .before .before .before .before .before .before .before .before .before .before .before)) (store-acts (found (c .before .before .before .before .before .before .before .before .before .before .before .before .before .before .before)) (c .before .before .before .before .before .before .before .before .before .before .before .before .before .match3 .keys8)) (told saysReached (c .before .before .before .before .before .before .before .before .before .before .before .reach2 .ensures .0) (c .before .before .before .before .before .before .before .before .before .reached2 .given .1 ∙ ap reached.At (c .before .before .before .before .before .before .spot7 .given .1))) (in-frame (found (c .before .before .before .before .before .before .before .before .before .before .before .before .before .before .before)) (widthOf (c .before .before .before .before .before .before .before .before .before .before .before .before .before .before .before .before .fetched .given .0 .0)) (c .before .before .before .before .before .before .spot7 .given .0 .0) (c .before .before .before .with-local .ensures)) refl (c .before .price14 .ensures .0) (c .counted15 .ensures .0), c .before .before .before .before .before .before .before .before .before .before .before .before .before .before .before .before .before .before .before .before .before .before .before .before .before .loop .inv .1)
+loop-again-25 c = (goes (found (c .before .before .before .before .before .before .before .before .before .before .before .before .before .before .before)) (store-acts (found (c .before .before .before .before .before .before .before .before .before .before .before .before .before .before .before)) (c .before .before .before .before .before .before .before .before .before .before .before .before .before .match3 .keys8)) (told saysReached (c .before .before .before .before .before .before .before .before .before .before .before .reach2 .ensures .0) (c .before .before .before .before .before .before .before .before .before .reached2 .given .1 ∙ ap reached.At (c .before .before .before .before .before .before .spot7 .given .1))) (held-there (c .before .before .set-local .ensures (c .before .before .before .before .before .before .before .before .before .before .before .before .before .before .before .before .before .before .before .before .before .before .before .before .before .loop .copies) (c .before .before .before .before .before .before .before .before .before .before .before .before .before .before .before .before .before .before .before .before .before .before .before .before .before .loop .inv .1 .1))) refl (c .before .price14 .ensures .0) (c .counted15 .ensures .0), (c .before .before .before .before .before .before .before .before .before .before .before .before .before .before .before .before .before .before .before .before .before .before .before .before .before .loop .inv .1 .0, (c .before .before .set-local .ensures (c .before .before .before .before .before .before .before .before .before .before .before .before .before .before .before .before .before .before .before .before .before .before .before .before .before .loop .copies) (c .before .before .before .before .before .before .before .before .before .before .before .before .before .before .before .before .before .before .before .before .before .before .before .before .before .loop .inv .1 .1)) .laid))
 
 enum-known-spot-8 : tie.Need-enum-known-spot-8 Inv-loop μ-loop
 enum-known-spot-8 c = search needs
 
-mul-level-4 : tie.Need-mul-level-4 Inv-loop μ-loop
-mul-level-4 c = search needs
+sub-set-cell : tie.Need-sub-set-cell Inv-loop μ-loop
+sub-set-cell c = omega (arith, cell-room (c .before .before .before .before .before .before .before .before .before .before .before .before .before .before .before .before .before .before .before .before .before .before .before .args .reach) (widthOf (c .before .before .before .before .before .before .before .before .before .before .before .before .fetched .given .0 .0)) (c .before .before .before .before .before .before .before .before .before .before .before .before .before .before .before .before .before .before .before .before .before .loop .cells) (told saysReached (c .before .before .before .before .before .before .before .reach2 .ensures .0) (c .before .before .before .before .before .reached2 .given .1 ∙ ap reached.At (c .before .before .spot8 .given .1))), (c .before .before .before .before .before .before .before .before .before .before .before .before .before .before .before .before .before .before .before .before .before .loop .inv .0) .p-within)
 
-array-copy-out-level-4 : tie.Need-array-copy-out-level-4 Inv-loop μ-loop
-array-copy-out-level-4 c = search needs
+mul-set-cell : tie.Need-mul-set-cell Inv-loop μ-loop
+mul-set-cell c = omega (arith, cell-room (c .before .before .before .before .before .before .before .before .before .before .before .before .before .before .before .before .before .before .before .before .before .before .before .args .reach) (widthOf (c .before .before .before .before .before .before .before .before .before .before .before .before .fetched .given .0 .0)) (c .before .before .before .before .before .before .before .before .before .before .before .before .before .before .before .before .before .before .before .before .before .loop .cells) (told saysReached (c .before .before .before .before .before .before .before .reach2 .ensures .0) (c .before .before .before .before .before .reached2 .given .1 ∙ ap reached.At (c .before .before .spot8 .given .1))), (c .before .before .before .before .before .before .before .before .before .before .before .before .before .before .before .before .before .before .before .before .before .loop .inv .0) .p-within)
 
-sub-with-cell : tie.Need-sub-with-cell Inv-loop μ-loop
-sub-with-cell c = omega (arith, cell-room (c .before .before .before .before .before .before .before .before .before .before .before .before .before .before .before .before .before .before .before .before .before .before .before .before .before .before .before .before .args .reach) (widthOf (c .before .before .before .before .before .before .before .before .before .before .before .before .fetched .given .0 .0)) (c .before .before .before .before .before .before .before .before .before .before .before .before .before .before .before .before .before .before .before .before .before .loop .cells) (told saysReached (c .before .before .before .before .before .before .before .reach2 .ensures .0) (c .before .before .before .before .before .reached2 .given .1 ∙ ap reached.At (c .before .before .spot8 .given .1))), (c .before .before .before .before .before .before .before .before .before .before .before .before .before .before .before .before .before .before .before .before .before .loop .inv .0) .e-within)
+element-copy-out-set-cell : tie.Need-element-copy-out-set-cell Inv-loop μ-loop
+element-copy-out-set-cell c = omega (arith, cell-room (c .before .before .before .before .before .before .before .before .before .before .before .before .before .before .before .before .before .before .before .before .before .before .before .args .reach) (widthOf (c .before .before .before .before .before .before .before .before .before .before .before .before .fetched .given .0 .0)) (c .before .before .before .before .before .before .before .before .before .before .before .before .before .before .before .before .before .before .before .before .before .loop .cells) (told saysReached (c .before .before .before .before .before .before .before .reach2 .ensures .0) (c .before .before .before .before .before .reached2 .given .1 ∙ ap reached.At (c .before .before .spot8 .given .1))), (c .before .before .before .before .before .before .before .before .before .before .before .before .before .before .before .before .before .before .before .before .before .loop .inv .0) .p-within)
 
-mul-with-cell : tie.Need-mul-with-cell Inv-loop μ-loop
-mul-with-cell c = omega (arith, cell-room (c .before .before .before .before .before .before .before .before .before .before .before .before .before .before .before .before .before .before .before .before .before .before .before .before .before .before .before .before .args .reach) (widthOf (c .before .before .before .before .before .before .before .before .before .before .before .before .fetched .given .0 .0)) (c .before .before .before .before .before .before .before .before .before .before .before .before .before .before .before .before .before .before .before .before .before .loop .cells) (told saysReached (c .before .before .before .before .before .before .before .reach2 .ensures .0) (c .before .before .before .before .before .reached2 .given .1 ∙ ap reached.At (c .before .before .spot8 .given .1))), (c .before .before .before .before .before .before .before .before .before .before .before .before .before .before .before .before .before .before .before .before .before .loop .inv .0) .e-within)
-
-array-read-with-cell : tie.Need-array-read-with-cell Inv-loop μ-loop
-array-read-with-cell c = omega (arith, cell-room (c .before .before .before .before .before .before .before .before .before .before .before .before .before .before .before .before .before .before .before .before .before .before .before .before .before .before .before .before .args .reach) (widthOf (c .before .before .before .before .before .before .before .before .before .before .before .before .fetched .given .0 .0)) (c .before .before .before .before .before .before .before .before .before .before .before .before .before .before .before .before .before .before .before .before .before .loop .cells) (told saysReached (c .before .before .before .before .before .before .before .reach2 .ensures .0) (c .before .before .before .before .before .reached2 .given .1 ∙ ap reached.At (c .before .before .spot8 .given .1))), (c .before .before .before .before .before .before .before .before .before .before .before .before .before .before .before .before .before .before .before .before .before .loop .inv .0) .e-within)
-
-with-cell-requires : tie.Need-with-cell-requires Inv-loop μ-loop
-with-cell-requires c κs = omega (arith, cell-room (c .before .before .before .before .before .before .before .before .before .before .before .before .before .before .before .before .before .before .before .before .before .before .before .before .before .before .before .before .args .reach) (widthOf (c .before .before .before .before .before .before .before .before .before .before .before .before .fetched .given .0 .0)) (c .before .before .before .before .before .before .before .before .before .before .before .before .before .before .before .before .before .before .before .before .before .loop .cells) (told saysReached (c .before .before .before .before .before .before .before .reach2 .ensures .0) (c .before .before .before .before .before .reached2 .given .1 ∙ ap reached.At (c .before .before .spot8 .given .1))))
-
-mul-levels-2 : tie.Need-mul-levels-2 Inv-loop μ-loop
-mul-levels-2 c = omega (arith, cell-room (c .before .before .before .before .before .before .before .before .before .before .before .before .before .before .before .before .before .before .before .before .before .before .before .before .before .before .before .before .before .args .reach) (widthOf (c .before .before .before .before .before .before .before .before .before .before .before .before .before .fetched .given .0 .0)) (c .before .before .before .before .before .before .before .before .before .before .before .before .before .before .before .before .before .before .before .before .before .before .loop .cells) (told saysReached (c .before .before .before .before .before .before .before .before .reach2 .ensures .0) (c .before .before .before .before .before .before .reached2 .given .1 ∙ ap reached.At (c .before .before .before .spot8 .given .1))), (c .before .before .before .before .before .before .before .before .before .before .before .before .before .before .before .before .before .before .before .before .before .before .loop .inv .0) .e-within)
-
-array-set-from-levels-2 : tie.Need-array-set-from-levels-2 Inv-loop μ-loop
-array-set-from-levels-2 c = omega (arith, cell-room (c .before .before .before .before .before .before .before .before .before .before .before .before .before .before .before .before .before .before .before .before .before .before .before .before .before .before .before .before .before .args .reach) (widthOf (c .before .before .before .before .before .before .before .before .before .before .before .before .before .fetched .given .0 .0)) (c .before .before .before .before .before .before .before .before .before .before .before .before .before .before .before .before .before .before .before .before .before .before .loop .cells) (told saysReached (c .before .before .before .before .before .before .before .before .reach2 .ensures .0) (c .before .before .before .before .before .before .reached2 .given .1 ∙ ap reached.At (c .before .before .before .spot8 .given .1))), (c .before .before .before .before .before .before .before .before .before .before .before .before .before .before .before .before .before .before .before .before .before .before .loop .inv .0) .e-within)
+set-cell-requires : tie.Need-set-cell-requires Inv-loop μ-loop
+set-cell-requires c κs = (omega (arith, (c .before .before .before .before .before .before .before .before .before .before .before .before .before .before .before .before .before .before .before .before .before .before .loop .inv .0) .e-within), omega (arith, cell-room (c .before .before .before .before .before .before .before .before .before .before .before .before .before .before .before .before .before .before .before .before .before .before .before .before .args .reach) (widthOf (c .before .before .before .before .before .before .before .before .before .before .before .before .before .fetched .given .0 .0)) (c .before .before .before .before .before .before .before .before .before .before .before .before .before .before .before .before .before .before .before .before .before .before .loop .cells) (told saysReached (c .before .before .before .before .before .before .before .before .reach2 .ensures .0) (c .before .before .before .before .before .before .reached2 .given .1 ∙ ap reached.At (c .before .before .before .spot8 .given .1)))))
 
 sub-regs-9 : tie.Need-sub-regs-9 Inv-loop μ-loop
-sub-regs-9 c = omega (arith, cell-room (c .before .before .before .before .before .before .before .before .before .before .before .before .before .before .before .before .before .before .before .before .before .before .before .before .before .before .before .before .before .args .reach) (widthOf (c .before .before .before .before .before .before .before .before .before .before .before .before .before .fetched .given .0 .0)) (c .before .before .before .before .before .before .before .before .before .before .before .before .before .before .before .before .before .before .before .before .before .before .loop .cells) (told saysReached (c .before .before .before .before .before .before .before .before .reach2 .ensures .0) (c .before .before .before .before .before .before .reached2 .given .1 ∙ ap reached.At (c .before .before .before .spot8 .given .1))), (c .before .before .before .before .before .before .before .before .before .before .before .before .before .before .before .before .before .before .before .before .before .before .loop .inv .0) .e-within)
+sub-regs-9 c = omega (arith, cell-room (c .before .before .before .before .before .before .before .before .before .before .before .before .before .before .before .before .before .before .before .before .before .before .before .before .before .args .reach) (widthOf (c .before .before .before .before .before .before .before .before .before .before .before .before .before .before .fetched .given .0 .0)) (c .before .before .before .before .before .before .before .before .before .before .before .before .before .before .before .before .before .before .before .before .before .before .before .loop .cells) (told saysReached (c .before .before .before .before .before .before .before .before .before .reach2 .ensures .0) (c .before .before .before .before .before .before .before .reached2 .given .1 ∙ ap reached.At (c .before .before .before .before .spot8 .given .1))), (c .before .before .before .before .before .before .before .before .before .before .before .before .before .before .before .before .before .before .before .before .before .before .before .loop .inv .0) .p-within)
 
 price-requires-15 : tie.Need-price-requires-15 Inv-loop μ-loop
-price-requires-15 c κs = search needs
+price-requires-15 c κs = c .before .before .before .before .before .before .before .before .before .before .before .before .before .before .before .before .before .before .before .before .before .before .before .loop .inv .1 .0
 
 counted-requires-16 : tie.Need-counted-requires-16 Inv-loop μ-loop
 counted-requires-16 c κs = ((found (c .before .before .before .before .before .before .before .before .before .before .before .before .before .before)) .less, ((omega (arith, (c .before .before .before .before .before .before .before .before .before .before .before .before .before .before .before .before .before .before .before .before .before .before .before .before .loop .inv .0) .priced, (c .before .before .before .before .before .before .before .before .before .before .before .before .before .before .before .before .before .before .before .before .before .before .before .before .loop .inv .0) .limit, (c .before .before .before .before .before .before .before .before .before .before .before .before .before .before .before .before .before .before .before .before .before .before .before .before .loop .inv .0) .left-within, (found (c .before .before .before .before .before .before .before .before .before .before .before .before .before .before)) .less)), c .price15 .ensures .1))
@@ -772,7 +714,7 @@ loop-less-26 : tie.Need-loop-less-26 Inv-loop μ-loop
 loop-less-26 c = omega (arith, c .counted16 .ensures .1)
 
 loop-again-26 : tie.Need-loop-again-26 Inv-loop μ-loop
-loop-again-26 c = (goes (found (c .before .before .before .before .before .before .before .before .before .before .before .before .before .before .before)) (store-acts (found (c .before .before .before .before .before .before .before .before .before .before .before .before .before .before .before)) (c .before .before .before .before .before .before .before .before .before .before .before .before .before .match3 .keys8)) (told saysReached (c .before .before .before .before .before .before .before .before .before .before .before .reach2 .ensures .0) (c .before .before .before .before .before .before .before .before .before .reached2 .given .1 ∙ ap reached.At (c .before .before .before .before .before .before .spot8 .given .1))) (in-level (found (c .before .before .before .before .before .before .before .before .before .before .before .before .before .before .before)) (widthOf (c .before .before .before .before .before .before .before .before .before .before .before .before .before .before .before .before .fetched .given .0 .0)) (c .before .before .before .before .before .before .spot8 .given .0 .0) (c .before .before .before .with-cell .ensures)) refl (c .before .price15 .ensures .0) (c .counted16 .ensures .0), c .before .before .before .before .before .before .before .before .before .before .before .before .before .before .before .before .before .before .before .before .before .before .before .before .before .loop .inv .1)
+loop-again-26 c = (goes (found (c .before .before .before .before .before .before .before .before .before .before .before .before .before .before .before)) (store-acts (found (c .before .before .before .before .before .before .before .before .before .before .before .before .before .before .before)) (c .before .before .before .before .before .before .before .before .before .before .before .before .before .match3 .keys8)) (told saysReached (c .before .before .before .before .before .before .before .before .before .before .before .reach2 .ensures .0) (c .before .before .before .before .before .before .before .before .before .reached2 .given .1 ∙ ap reached.At (c .before .before .before .before .before .before .spot8 .given .1))) (held-there (c .before .before .set-cell .ensures (c .before .before .before .before .before .before .before .before .before .before .before .before .before .before .before .before .before .before .before .before .before .before .before .before .before .loop .copies) (c .before .before .before .before .before .before .before .before .before .before .before .before .before .before .before .before .before .before .before .before .before .before .before .before .before .loop .inv .1 .1))) refl (c .before .price15 .ensures .0) (c .counted16 .ensures .0), (c .before .before .before .before .before .before .before .before .before .before .before .before .before .before .before .before .before .before .before .before .before .before .before .before .before .loop .inv .1 .0, (c .before .before .set-cell .ensures (c .before .before .before .before .before .before .before .before .before .before .before .before .before .before .before .before .before .before .before .before .before .before .before .before .before .loop .copies) (c .before .before .before .before .before .before .before .before .before .before .before .before .before .before .before .before .before .before .before .before .before .before .before .before .before .loop .inv .1 .1)) .laid))
 
 can-call-requires : tie.Need-can-call-requires Inv-loop μ-loop
 can-call-requires c κs = search needs
@@ -790,41 +732,34 @@ loop-less-27 : tie.Need-loop-less-27 Inv-loop μ-loop
 loop-less-27 c = halted-less (c .before .before .before .before .before .before .before .before .before .before .before .before .before .before .before .before .loop .regs) (c .by-check5 .ensures) (ap saysChecked (c .before .enum-told16 .given .1)) ((found (c .before .before .before .before .before .before)) .less)
 
 loop-again-27 : tie.Need-loop-again-27 Inv-loop μ-loop
-loop-again-27 c = (ends (found (c .before .before .before .before .before .before)) (call-acts (found (c .before .before .before .before .before .before)) (c .before .before .before .before .match3 .keys9)) (told saysChecked (c .before .before .before .can-call .ensures) (c .before .enum-told16 .given .1)) (c .before .before .before .can-call .ensures) (c .by-check5 .ensures), c .before .before .before .before .before .before .before .before .before .before .before .before .before .before .before .before .loop .inv .1)
+loop-again-27 c = (ends (found (c .before .before .before .before .before .before)) (call-acts (found (c .before .before .before .before .before .before)) (c .before .before .before .before .match3 .keys9)) (told saysChecked (c .before .before .before .can-call .ensures) (c .before .enum-told16 .given .1)) (c .before .before .before .can-call .ensures) (c .by-check5 .ensures), (c .before .before .before .before .before .before .before .before .before .before .before .before .before .before .before .before .loop .inv .1))
 
 mul-returns-4 : tie.Need-mul-returns-4 Inv-loop μ-loop
 mul-returns-4 c = omega (arith, call-room (told saysChecked (c .before .before .can-call .ensures) (c .enum-told15 .given .1)))
 
-array-write-returns-3 : tie.Need-array-write-returns-3 Inv-loop μ-loop
-array-write-returns-3 c = omega (arith, call-room (told saysChecked (c .before .before .can-call .ensures) (c .enum-told15 .given .1)))
+element-write-returns-3 : tie.Need-element-write-returns-3 Inv-loop μ-loop
+element-write-returns-3 c = omega (arith, call-room (told saysChecked (c .before .before .can-call .ensures) (c .enum-told15 .given .1)))
 
-add-frames-2 : tie.Need-add-frames-2 Inv-loop μ-loop
-add-frames-2 c = omega (arith, call-room (told saysChecked (c .before .before .can-call .ensures) (c .enum-told15 .given .1)))
-
-mul-frames-3 : tie.Need-mul-frames-3 Inv-loop μ-loop
-mul-frames-3 c = omega (arith, call-room (told saysChecked (c .before .before .can-call .ensures) (c .enum-told15 .given .1)))
-
-array-set-from-frames-3 : tie.Need-array-set-from-frames-3 Inv-loop μ-loop
-array-set-from-frames-3 c = omega (arith, call-room (told saysChecked (c .before .before .can-call .ensures) (c .enum-told15 .given .1)))
+called-requires-2 : tie.Need-called-requires-2 Inv-loop μ-loop
+called-requires-2 c κs = omega (arith, call-room (told saysChecked (c .before .before .before .before .can-call .ensures) (c .before .before .enum-told15 .given .1)))
 
 add-regs-8 : tie.Need-add-regs-8 Inv-loop μ-loop
-add-regs-8 c = omega (arith, call-room (told saysChecked (c .before .before .can-call .ensures) (c .enum-told15 .given .1)))
+add-regs-8 c = omega (arith, call-room (told saysChecked (c .before .before .before .before .before .can-call .ensures) (c .before .before .before .enum-told15 .given .1)))
 
 add-regs-9 : tie.Need-add-regs-9 Inv-loop μ-loop
-add-regs-9 c = omega (arith, call-room (told saysChecked (c .before .before .can-call .ensures) (c .enum-told15 .given .1)))
+add-regs-9 c = omega (arith, call-room (told saysChecked (c .before .before .before .before .before .can-call .ensures) (c .before .before .before .enum-told15 .given .1)))
 
 price-requires-16 : tie.Need-price-requires-16 Inv-loop μ-loop
-price-requires-16 c κs = search needs
+price-requires-16 c κs = c .before .before .before .before .before .before .before .before .before .before .before .before .before .before .before .before .before .before .loop .inv .1 .0
 
 counted-requires-17 : tie.Need-counted-requires-17 Inv-loop μ-loop
-counted-requires-17 c κs = ((found (c .before .before .before .before .before .before .before)) .less, ((omega (arith, (c .before .before .before .before .before .before .before .before .before .before .before .before .before .before .before .before .before .loop .inv .0) .priced, (c .before .before .before .before .before .before .before .before .before .before .before .before .before .before .before .before .before .loop .inv .0) .limit, (c .before .before .before .before .before .before .before .before .before .before .before .before .before .before .before .before .before .loop .inv .0) .left-within, (found (c .before .before .before .before .before .before .before)) .less)), c .price16 .ensures .1))
+counted-requires-17 c κs = ((found (c .before .before .before .before .before .before .before .before .before)) .less, ((omega (arith, (c .before .before .before .before .before .before .before .before .before .before .before .before .before .before .before .before .before .before .before .loop .inv .0) .priced, (c .before .before .before .before .before .before .before .before .before .before .before .before .before .before .before .before .before .before .before .loop .inv .0) .limit, (c .before .before .before .before .before .before .before .before .before .before .before .before .before .before .before .before .before .before .before .loop .inv .0) .left-within, (found (c .before .before .before .before .before .before .before .before .before)) .less)), c .price16 .ensures .1))
 
 loop-less-28 : tie.Need-loop-less-28 Inv-loop μ-loop
 loop-less-28 c = omega (arith, c .counted17 .ensures .1)
 
 loop-again-28 : tie.Need-loop-again-28 Inv-loop μ-loop
-unfolding noLocals
-loop-again-28 c = (goes (found (c .before .before .before .before .before .before .before .before)) (call-acts (found (c .before .before .before .before .before .before .before .before)) (c .before .before .before .before .before .before .match3 .keys9)) (told saysChecked (c .before .before .before .before .before .can-call .ensures) (c .before .before .before .enum-told15 .given .1)) refl refl (c .before .price16 .ensures .0) (c .counted17 .ensures .0), c .before .before .before .before .before .before .before .before .before .before .before .before .before .before .before .before .before .before .loop .inv .1)
+loop-again-28 c = (goes (found (c .before .before .before .before .before .before .before .before .before .before)) (call-acts (found (c .before .before .before .before .before .before .before .before .before .before)) (c .before .before .before .before .before .before .before .before .match3 .keys9)) (told saysChecked (c .before .before .before .before .before .before .before .can-call .ensures) (c .before .before .before .before .before .enum-told15 .given .1)) (held-there (c .before .before .called2 .ensures (c .before .before .before .before .before .before .before .before .before .before .before .before .before .before .before .before .before .before .before .before .loop .inv .1 .1))) refl (c .before .price16 .ensures .0) (c .counted17 .ensures .0), (c .before .before .before .before .before .before .before .before .before .before .before .before .before .before .before .before .before .before .before .before .loop .inv .1 .0, (c .before .before .called2 .ensures (c .before .before .before .before .before .before .before .before .before .before .before .before .before .before .before .before .before .before .before .before .loop .inv .1 .1)) .laid))
 
 can-call-requires-2 : tie.Need-can-call-requires-2 Inv-loop μ-loop
 can-call-requires-2 c κs = search needs
@@ -842,7 +777,7 @@ loop-less-29 : tie.Need-loop-less-29 Inv-loop μ-loop
 loop-less-29 c = halted-less (c .before .before .before .before .before .before .before .before .before .before .before .before .before .before .before .before .loop .regs) (c .by-check6 .ensures) (ap saysChecked (c .before .enum-told18 .given .1)) ((found (c .before .before .before .before .before .before)) .less)
 
 loop-again-29 : tie.Need-loop-again-29 Inv-loop μ-loop
-loop-again-29 c = (ends (found (c .before .before .before .before .before .before)) (call-top-acts (found (c .before .before .before .before .before .before)) (c .before .before .before .before .match3 .keys10)) (told saysChecked (c .before .before .before .can-call2 .ensures) (c .before .enum-told18 .given .1)) (c .before .before .before .can-call2 .ensures) (c .by-check6 .ensures), c .before .before .before .before .before .before .before .before .before .before .before .before .before .before .before .before .loop .inv .1)
+loop-again-29 c = (ends (found (c .before .before .before .before .before .before)) (call-top-acts (found (c .before .before .before .before .before .before)) (c .before .before .before .before .match3 .keys10)) (told saysChecked (c .before .before .before .can-call2 .ensures) (c .before .enum-told18 .given .1)) (c .before .before .before .can-call2 .ensures) (c .by-check6 .ensures), (c .before .before .before .before .before .before .before .before .before .before .before .before .before .before .before .before .loop .inv .1))
 
 sub-to-2 : tie.Need-sub-to-2 Inv-loop μ-loop
 sub-to-2 c = omega (arith, call-room (told saysChecked (c .before .before .can-call2 .ensures) (c .enum-told17 .given .1)))
@@ -850,45 +785,38 @@ sub-to-2 c = omega (arith, call-room (told saysChecked (c .before .before .can-c
 mul-to-2 : tie.Need-mul-to-2 Inv-loop μ-loop
 mul-to-2 c = omega (arith, call-room (told saysChecked (c .before .before .can-call2 .ensures) (c .enum-told17 .given .1)))
 
-array-read-to-2 : tie.Need-array-read-to-2 Inv-loop μ-loop
-array-read-to-2 c = omega (arith, call-room (told saysChecked (c .before .before .can-call2 .ensures) (c .enum-told17 .given .1)))
+element-copy-out-to-2 : tie.Need-element-copy-out-to-2 Inv-loop μ-loop
+element-copy-out-to-2 c = omega (arith, call-room (told saysChecked (c .before .before .can-call2 .ensures) (c .enum-told17 .given .1)))
 
 mul-returns-5 : tie.Need-mul-returns-5 Inv-loop μ-loop
-mul-returns-5 c = omega (arith, call-room (told saysChecked (c .before .before .can-call2 .ensures) (c .enum-told17 .given .1)))
+mul-returns-5 c = omega (arith, call-room (told saysChecked (c .before .before .before .can-call2 .ensures) (c .before .enum-told17 .given .1)))
 
-array-write-returns-4 : tie.Need-array-write-returns-4 Inv-loop μ-loop
-array-write-returns-4 c = omega (arith, call-room (told saysChecked (c .before .before .can-call2 .ensures) (c .enum-told17 .given .1)))
+element-write-returns-4 : tie.Need-element-write-returns-4 Inv-loop μ-loop
+element-write-returns-4 c = omega (arith, call-room (told saysChecked (c .before .before .before .can-call2 .ensures) (c .before .enum-told17 .given .1)))
 
-add-frames-3 : tie.Need-add-frames-3 Inv-loop μ-loop
-add-frames-3 c = omega (arith, call-room (told saysChecked (c .before .before .can-call2 .ensures) (c .enum-told17 .given .1)))
-
-mul-frames-4 : tie.Need-mul-frames-4 Inv-loop μ-loop
-mul-frames-4 c = omega (arith, call-room (told saysChecked (c .before .before .can-call2 .ensures) (c .enum-told17 .given .1)))
-
-array-set-from-frames-4 : tie.Need-array-set-from-frames-4 Inv-loop μ-loop
-array-set-from-frames-4 c = omega (arith, call-room (told saysChecked (c .before .before .can-call2 .ensures) (c .enum-told17 .given .1)))
+called-requires-3 : tie.Need-called-requires-3 Inv-loop μ-loop
+called-requires-3 c κs = omega (arith, call-room (told saysChecked (c .before .before .before .before .before .can-call2 .ensures) (c .before .before .before .enum-told17 .given .1)))
 
 sub-regs-10 : tie.Need-sub-regs-10 Inv-loop μ-loop
-sub-regs-10 c = omega (arith, call-room (told saysChecked (c .before .before .can-call2 .ensures) (c .enum-told17 .given .1)))
+sub-regs-10 c = omega (arith, call-room (told saysChecked (c .before .before .before .before .before .before .can-call2 .ensures) (c .before .before .before .before .enum-told17 .given .1)))
 
 add-regs-10 : tie.Need-add-regs-10 Inv-loop μ-loop
-add-regs-10 c = omega (arith, call-room (told saysChecked (c .before .before .can-call2 .ensures) (c .enum-told17 .given .1)))
+add-regs-10 c = omega (arith, call-room (told saysChecked (c .before .before .before .before .before .before .can-call2 .ensures) (c .before .before .before .before .enum-told17 .given .1)))
 
 add-regs-11 : tie.Need-add-regs-11 Inv-loop μ-loop
-add-regs-11 c = omega (arith, call-room (told saysChecked (c .before .before .can-call2 .ensures) (c .enum-told17 .given .1)))
+add-regs-11 c = omega (arith, call-room (told saysChecked (c .before .before .before .before .before .before .can-call2 .ensures) (c .before .before .before .before .enum-told17 .given .1)))
 
 price-requires-17 : tie.Need-price-requires-17 Inv-loop μ-loop
-price-requires-17 c κs = search needs
+price-requires-17 c κs = c .before .before .before .before .before .before .before .before .before .before .before .before .before .before .before .before .before .before .before .loop .inv .1 .0
 
 counted-requires-18 : tie.Need-counted-requires-18 Inv-loop μ-loop
-counted-requires-18 c κs = ((found (c .before .before .before .before .before .before .before)) .less, ((omega (arith, (c .before .before .before .before .before .before .before .before .before .before .before .before .before .before .before .before .before .loop .inv .0) .priced, (c .before .before .before .before .before .before .before .before .before .before .before .before .before .before .before .before .before .loop .inv .0) .limit, (c .before .before .before .before .before .before .before .before .before .before .before .before .before .before .before .before .before .loop .inv .0) .left-within, (found (c .before .before .before .before .before .before .before)) .less)), c .price17 .ensures .1))
+counted-requires-18 c κs = ((found (c .before .before .before .before .before .before .before .before .before .before)) .less, ((omega (arith, (c .before .before .before .before .before .before .before .before .before .before .before .before .before .before .before .before .before .before .before .before .loop .inv .0) .priced, (c .before .before .before .before .before .before .before .before .before .before .before .before .before .before .before .before .before .before .before .before .loop .inv .0) .limit, (c .before .before .before .before .before .before .before .before .before .before .before .before .before .before .before .before .before .before .before .before .loop .inv .0) .left-within, (found (c .before .before .before .before .before .before .before .before .before .before)) .less)), c .price17 .ensures .1))
 
 loop-less-30 : tie.Need-loop-less-30 Inv-loop μ-loop
 loop-less-30 c = omega (arith, c .counted18 .ensures .1)
 
 loop-again-30 : tie.Need-loop-again-30 Inv-loop μ-loop
-unfolding noLocals
-loop-again-30 c = (goes (found (c .before .before .before .before .before .before .before .before)) (call-top-acts (found (c .before .before .before .before .before .before .before .before)) (c .before .before .before .before .before .before .match3 .keys10)) (told saysChecked (c .before .before .before .before .before .can-call2 .ensures) (c .before .before .before .enum-told17 .given .1)) refl refl (c .before .price17 .ensures .0) (c .counted18 .ensures .0), c .before .before .before .before .before .before .before .before .before .before .before .before .before .before .before .before .before .before .loop .inv .1)
+loop-again-30 c = (goes (found (c .before .before .before .before .before .before .before .before .before .before .before)) (call-top-acts (found (c .before .before .before .before .before .before .before .before .before .before .before)) (c .before .before .before .before .before .before .before .before .before .match3 .keys10)) (told saysChecked (c .before .before .before .before .before .before .before .before .can-call2 .ensures) (c .before .before .before .before .before .before .enum-told17 .given .1)) (held-there (c .before .before .called3 .ensures (c .before .before .before .before .before .before .before .before .before .before .before .before .before .before .before .before .before .before .before .before .before .loop .inv .1 .1))) refl (c .before .price17 .ensures .0) (c .counted18 .ensures .0), (c .before .before .before .before .before .before .before .before .before .before .before .before .before .before .before .before .before .before .before .before .before .loop .inv .1 .0, (c .before .before .called3 .ensures (c .before .before .before .before .before .before .before .before .before .before .before .before .before .before .before .before .before .before .before .before .before .loop .inv .1 .1)) .laid))
 
 can-exit-requires : tie.Need-can-exit-requires Inv-loop μ-loop
 can-exit-requires c κs = search needs
@@ -906,46 +834,43 @@ loop-less-31 : tie.Need-loop-less-31 Inv-loop μ-loop
 loop-less-31 c = halted-less (c .before .before .before .before .before .before .before .before .before .before .before .before .before .before .before .before .loop .regs) (c .by-exit .ensures) (ap saysExit (c .before .enum-told20 .given .1)) ((found (c .before .before .before .before .before .before)) .less)
 
 loop-again-31 : tie.Need-loop-again-31 Inv-loop μ-loop
-loop-again-31 c = (ends (found (c .before .before .before .before .before .before)) (exit-acts (found (c .before .before .before .before .before .before)) (c .before .before .before .before .match3 .keys11) refl) (told saysExit (c .before .before .before .can-exit .ensures) (c .before .enum-told20 .given .1)) (c .before .before .before .can-exit .ensures) (c .by-exit .ensures), c .before .before .before .before .before .before .before .before .before .before .before .before .before .before .before .before .loop .inv .1)
-
-mul-frame-5 : tie.Need-mul-frame-5 Inv-loop μ-loop
-mul-frame-5 c = omega (arith, exit-room (told saysExit (c .before .before .can-exit .ensures) (c .enum-told19 .given .1)))
-
-array-copy-out-frame-5 : tie.Need-array-copy-out-frame-5 Inv-loop μ-loop
-array-copy-out-frame-5 c = omega (arith, exit-room (told saysExit (c .before .before .can-exit .ensures) (c .enum-told19 .given .1)))
-
-mul-level-5 : tie.Need-mul-level-5 Inv-loop μ-loop
-mul-level-5 c = omega (arith, exit-room (told saysExit (c .before .before .before .can-exit .ensures) (c .before .enum-told19 .given .1)))
-
-array-copy-out-level-5 : tie.Need-array-copy-out-level-5 Inv-loop μ-loop
-array-copy-out-level-5 c = omega (arith, exit-room (told saysExit (c .before .before .before .can-exit .ensures) (c .before .enum-told19 .given .1)))
+loop-again-31 c = (ends (found (c .before .before .before .before .before .before)) (exit-acts (found (c .before .before .before .before .before .before)) (c .before .before .before .before .match3 .keys11) refl refl refl) (told saysExit (c .before .before .before .can-exit .ensures) (c .before .enum-told20 .given .1)) (c .before .before .before .can-exit .ensures) (c .by-exit .ensures), (c .before .before .before .before .before .before .before .before .before .before .before .before .before .before .before .before .loop .inv .1))
 
 sub-regs-11 : tie.Need-sub-regs-11 Inv-loop μ-loop
-sub-regs-11 c = omega (arith, exit-room (told saysExit (c .before .before .before .before .can-exit .ensures) (c .before .before .enum-told19 .given .1)))
+sub-regs-11 c = omega (arith, exit-room (told saysExit (c .before .before .can-exit .ensures) (c .enum-told19 .given .1)))
 
 sub-e-after-drop : tie.Need-sub-e-after-drop Inv-loop μ-loop
-sub-e-after-drop c = omega (arith, exit-room (told saysExit (c .before .before .before .before .can-exit .ensures) (c .before .before .enum-told19 .given .1)))
+sub-e-after-drop c = omega (arith, exit-room (told saysExit (c .before .before .can-exit .ensures) (c .enum-told19 .given .1)))
+
+copy-of-s-requires-3 : tie.Need-copy-of-s-requires-3 Inv-loop μ-loop
+copy-of-s-requires-3 c κs = omega (arith, (c .before .before .before .before .before .before .before .before .before .before .before .before .before .before .before .before .loop .inv .0) .e-within)
 
 e-after-drop-requires : tie.Need-e-after-drop-requires Inv-loop μ-loop
 e-after-drop-requires c κs = search needs
 
+copy-of-r-requires-3 : tie.Need-copy-of-r-requires-3 Inv-loop μ-loop
+copy-of-r-requires-3 c κs = omega (arith, (c .before .before .before .before .before .before .before .before .before .before .before .before .before .before .before .before .before .before .before .loop .inv .0) .s-within)
+
+return-address-requires : tie.Need-return-address-requires Inv-loop μ-loop
+return-address-requires c κs = omega (arith, (c .before .before .before .before .before .before .before .before .before .before .before .before .before .before .before .before .before .before .before .before .before .loop .inv .0) .s-within)
+
 price-requires-18 : tie.Need-price-requires-18 Inv-loop μ-loop
-price-requires-18 c κs = search needs
+price-requires-18 c κs = c .before .before .before .before .before .before .before .before .before .before .before .before .before .before .before .before .before .before .before .before .before .before .loop .inv .1 .0
 
 counted-requires-19 : tie.Need-counted-requires-19 Inv-loop μ-loop
-counted-requires-19 c κs = ((found (c .before .before .before .before .before .before .before .before .before .before)) .less, ((omega (arith, (c .before .before .before .before .before .before .before .before .before .before .before .before .before .before .before .before .before .before .before .before .loop .inv .0) .priced, (c .before .before .before .before .before .before .before .before .before .before .before .before .before .before .before .before .before .before .before .before .loop .inv .0) .limit, (c .before .before .before .before .before .before .before .before .before .before .before .before .before .before .before .before .before .before .before .before .loop .inv .0) .left-within, (found (c .before .before .before .before .before .before .before .before .before .before)) .less)), c .price18 .ensures .1))
+counted-requires-19 c κs = ((found (c .before .before .before .before .before .before .before .before .before .before .before .before .before)) .less, ((omega (arith, (c .before .before .before .before .before .before .before .before .before .before .before .before .before .before .before .before .before .before .before .before .before .before .before .loop .inv .0) .priced, (c .before .before .before .before .before .before .before .before .before .before .before .before .before .before .before .before .before .before .before .before .before .before .before .loop .inv .0) .limit, (c .before .before .before .before .before .before .before .before .before .before .before .before .before .before .before .before .before .before .before .before .before .before .before .loop .inv .0) .left-within, (found (c .before .before .before .before .before .before .before .before .before .before .before .before .before)) .less)), c .price18 .ensures .1))
 
 loop-less-32 : tie.Need-loop-less-32 Inv-loop μ-loop
 loop-less-32 c = omega (arith, c .counted19 .ensures .1)
 
 loop-again-32 : tie.Need-loop-again-32 Inv-loop μ-loop
-loop-again-32 c = (goes (found (c .before .before .before .before .before .before .before .before .before .before .before)) (exit-acts (found (c .before .before .before .before .before .before .before .before .before .before .before)) (c .before .before .before .before .before .before .before .before .before .match3 .keys11) (c .before .before .before .e-after-drop .ensures)) (told saysExit (c .before .before .before .before .before .before .before .before .can-exit .ensures) (c .before .before .before .before .before .before .enum-told19 .given .1)) refl refl (c .before .price18 .ensures .0) (c .counted19 .ensures .0), c .before .before .before .before .before .before .before .before .before .before .before .before .before .before .before .before .before .before .before .before .before .loop .inv .1)
+loop-again-32 c = (goes (found (c .before .before .before .before .before .before .before .before .before .before .before .before .before .before)) (exit-acts (found (c .before .before .before .before .before .before .before .before .before .before .before .before .before .before)) (c .before .before .before .before .before .before .before .before .before .before .before .before .match3 .keys11) (c .before .before .before .before .before .before .e-after-drop .ensures ∙ ap (eAfterDropOf (c .before .before .before .before .before .before .before .before .before .before .before .before .before .before .before .before .before .before .before .before .before .before .before .before .loop .regs .s - 1) (c .before .before .before .before .before .before .before .before .before .before .before .before .before .before .before .before .before .before .before .before .before .before .before .before .loop .regs .e)) (c .before .before .before .before .before .before .before .copy-of-s3 .ensures (c .before .before .before .before .before .before .before .before .before .before .before .before .before .before .before .before .before .before .before .before .before .before .before .before .loop .rows))) (c .before .before .before .before .copy-of-r3 .ensures (c .before .before .before .before .before .before .before .before .before .before .before .before .before .before .before .before .before .before .before .before .before .before .before .before .loop .rows)) (c .before .before .return-address .ensures (c .before .before .before .before .before .before .before .before .before .before .before .before .before .before .before .before .before .before .before .before .before .before .before .before .loop .copies))) (told saysExit (c .before .before .before .before .before .before .before .before .before .before .before .can-exit .ensures) (c .before .before .before .before .before .before .before .before .before .enum-told19 .given .1)) refl refl (c .before .price18 .ensures .0) (c .counted19 .ensures .0), (c .before .before .before .before .before .before .before .before .before .before .before .before .before .before .before .before .before .before .before .before .before .before .before .before .loop .inv .1))
 
 price-requires-19 : tie.Need-price-requires-19 Inv-loop μ-loop
-price-requires-19 c κs = search needs
+price-requires-19 c κs = c .before .before .before .before .before .before .before .before .before .before .before .before .loop .inv .1 .0
 
 counted-requires-20 : tie.Need-counted-requires-20 Inv-loop μ-loop
-counted-requires-20 c κs = ((found (c .before .before .before .before)) .less, ((omega (arith, (c .before .before .before .before .before .before .before .before .before .before .before .before .before .before .loop .inv .0) .priced, (c .before .before .before .before .before .before .before .before .before .before .before .before .before .before .loop .inv .0) .limit, (c .before .before .before .before .before .before .before .before .before .before .before .before .before .before .loop .inv .0) .left-within, (found (c .before .before .before .before)) .less)), c .price19 .ensures .1))
+counted-requires-20 c κs = ((found (c .before .before .before)) .less, ((omega (arith, (c .before .before .before .before .before .before .before .before .before .before .before .before .before .loop .inv .0) .priced, (c .before .before .before .before .before .before .before .before .before .before .before .before .before .loop .inv .0) .limit, (c .before .before .before .before .before .before .before .before .before .before .before .before .before .loop .inv .0) .left-within, (found (c .before .before .before)) .less)), c .price19 .ensures .1))
 
 paused-requires : tie.Need-paused-requires Inv-loop μ-loop
 paused-requires c κs = search needs
@@ -954,7 +879,7 @@ loop-less-33 : tie.Need-loop-less-33 Inv-loop μ-loop
 loop-less-33 c = omega (arith, c .before .counted20 .ensures .1, c .paused .ensures .1)
 
 loop-again-33 : tie.Need-loop-again-33 Inv-loop μ-loop
-loop-again-33 c = (paused (found (c .before .before .before .before .before .before)) (pause-is (found (c .before .before .before .before .before .before)) (c .before .before .before .before .match3 .keys12)) refl (c .before .before .price19 .ensures .0) (c .before .before .before .before .match3 .keys12) (c .before .counted20 .ensures .0) (c .paused .ensures .0), c .before .before .before .before .before .before .before .before .before .before .before .before .before .before .before .before .loop .inv .1)
+loop-again-33 c = (paused (found (c .before .before .before .before .before)) (pause-is (found (c .before .before .before .before .before)) (c .before .before .before .match3 .keys12)) refl (c .before .before .price19 .ensures .0) (c .before .before .before .match3 .keys12) (c .before .counted20 .ensures .0) (c .paused .ensures .0), (c .before .before .before .before .before .before .before .before .before .before .before .before .before .before .before .loop .inv .1))
 
 on-cells-requires : tie.Need-on-cells-requires Inv-loop μ-loop
 on-cells-requires c κs = ((c .before .before .before .before .before .before .before .before .before .before .before .before .before .loop .inv .0) .p-within, (omega (arith, c .before .before .if3 .left), (record { not07 = (c .before .match3 .rest .0 .0 .0 .0 .0 .0 .0 .0 .0 .0 .0 .1); not08 = (c .before .match3 .rest .0 .0 .0 .0 .0 .0 .0 .0 .0 .0 .1); not09 = (c .before .match3 .rest .0 .0 .0 .0 .0 .0 .0 .0 .0 .1); not0B = (c .before .match3 .rest .0 .0 .0 .0 .0 .0 .0 .0 .1); not0C = (c .before .match3 .rest .0 .0 .0 .0 .0 .0 .0 .1); not0D = (c .before .match3 .rest .0 .0 .0 .0 .0 .0 .1); not2D = (λ h. c .before .match3 .rest .0 .0 .0 .0 .0 .1 (inl h)); not2E = (λ h. c .before .match3 .rest .0 .0 .0 .0 .1 (inl h)); not2F = (λ h. c .before .match3 .rest .0 .0 .0 .0 .0 .1 (inr (inl h))); not30 = (λ h. c .before .match3 .rest .0 .0 .0 .0 .1 (inr (inl h))); not31 = (λ h. c .before .match3 .rest .0 .0 .0 .0 .0 .1 (inr (inr (h)))); not32 = (λ h. c .before .match3 .rest .0 .0 .0 .0 .1 (inr (inr (h)))); not38 = (c .before .match3 .rest .0 .0 .0 .1); not39 = (c .before .match3 .rest .0 .0 .1); not3D = (c .before .match3 .rest .0 .1); not3E = (c .before .match3 .rest .1) })))
@@ -972,28 +897,25 @@ loop-less-34 : tie.Need-loop-less-34 Inv-loop μ-loop
 loop-less-34 c = halted-less (c .before .before .before .before .before .before .before .before .before .before .before .before .before .before .before .before .before .loop .regs) (c .by-done2 .ensures) (ap saysDone (c .before .enum-told21 .given .1)) ((found (c .before .before .before .before .before .before .before)) .less)
 
 loop-again-34 : tie.Need-loop-again-34 Inv-loop μ-loop
-loop-again-34 c = (cells-end (found (c .before .before .before .before .before .before .before)) (c .before .before .before .before .before .match3 .rest .0 .0 .0 .0 .0 .0 .1) (c .before .before .before .before .before .match3 .rest .1) (c .before .before .before .on-cells .ensures) (ap saysDone (c .before .enum-told21 .given .1)) (c .by-done2 .ensures), c .before .before .before .before .before .before .before .before .before .before .before .before .before .before .before .before .before .loop .inv .1)
+loop-again-34 c = (cells-end (found (c .before .before .before .before .before .before .before)) (c .before .before .before .before .before .match3 .rest .0 .0 .0 .0 .0 .0 .1) (c .before .before .before .before .before .match3 .rest .1) (c .before .before .before .on-cells .ensures) (ap saysDone (c .before .enum-told21 .given .1)) (c .by-done2 .ensures), (c .before .before .before .before .before .before .before .before .before .before .before .before .before .before .before .before .before .loop .inv .1))
 
 price-requires-20 : tie.Need-price-requires-20 Inv-loop μ-loop
-price-requires-20 c κs = search needs
+price-requires-20 c κs = c .before .before .before .before .before .before .before .before .before .before .before .before .before .before .before .before .before .loop .inv .1 .0
 
 counted-requires-21 : tie.Need-counted-requires-21 Inv-loop μ-loop
-counted-requires-21 c κs = ((found (c .before .before .before .before .before .before .before .before .before)) .less, ((omega (arith, (c .before .before .before .before .before .before .before .before .before .before .before .before .before .before .before .before .before .before .before .loop .inv .0) .priced, (c .before .before .before .before .before .before .before .before .before .before .before .before .before .before .before .before .before .before .before .loop .inv .0) .limit, (c .before .before .before .before .before .before .before .before .before .before .before .before .before .before .before .before .before .before .before .loop .inv .0) .left-within, (found (c .before .before .before .before .before .before .before .before .before)) .less)), c .price20 .ensures .1))
+counted-requires-21 c κs = ((found (c .before .before .before .before .before .before .before .before)) .less, ((omega (arith, (c .before .before .before .before .before .before .before .before .before .before .before .before .before .before .before .before .before .before .loop .inv .0) .priced, (c .before .before .before .before .before .before .before .before .before .before .before .before .before .before .before .before .before .before .loop .inv .0) .limit, (c .before .before .before .before .before .before .before .before .before .before .before .before .before .before .before .before .before .before .loop .inv .0) .left-within, (found (c .before .before .before .before .before .before .before .before)) .less)), c .price20 .ensures .1))
 
 loop-less-35 : tie.Need-loop-less-35 Inv-loop μ-loop
 loop-less-35 c = omega (arith, c .counted21 .ensures .1)
 
 loop-again-35 : tie.Need-loop-again-35 Inv-loop μ-loop
-loop-again-35 c = (goes (found (c .before .before .before .before .before .before .before .before .before .before)) (cells-acts (found (c .before .before .before .before .before .before .before .before .before .before)) (c .before .before .before .before .before .before .before .before .match3 .rest .0 .0 .0 .0 .0 .0 .1) (c .before .before .before .before .before .before .before .before .match3 .rest .1) (c .before .before .before .before .before .before .on-cells .ensures)) (ap saysDone (c .before .before .before .before .done2 .given .1)) refl refl (c .before .price20 .ensures .0) (c .counted21 .ensures .0), c .before .before .before .before .before .before .before .before .before .before .before .before .before .before .before .before .before .before .before .before .loop .inv .1)
-
-finished-requires : tie.Need-finished-requires Inv-loop μ-loop
-finished-requires c κs = search needs
+loop-again-35 c = (goes (found (c .before .before .before .before .before .before .before .before .before)) (cells-acts (found (c .before .before .before .before .before .before .before .before .before)) (c .before .before .before .before .before .before .before .match3 .rest .0 .0 .0 .0 .0 .0 .1) (c .before .before .before .before .before .before .before .match3 .rest .1) (c .before .before .before .before .before .on-cells .ensures)) (ap saysDone (c .before .before .before .done2 .given .1)) refl refl (c .before .price20 .ensures .0) (c .counted21 .ensures .0), (c .before .before .before .before .before .before .before .before .before .before .before .before .before .before .before .before .before .before .before .loop .inv .1))
 
 same-length : tie.Need-same-length Inv-loop μ-loop
-same-length c = (c .before .before .before .loop .inv .0) .long ∙ sym ((c .before .before .before .loop .inv .0) .long₀)
+same-length c = (c .before .before .loop .inv .0) .long ∙ sym ((c .before .before .loop .inv .0) .long₀)
 
 returns : tie.Need-returns Inv-loop μ-loop
-returns c = c .finished .ensures (c .before .before .before .loop .mem) ∙ (c .before .before .before .loop .inv .0) .over (c .before .if1 .left)
+returns c = record { unspent-within = (c .before .before .loop .inv .0) .unspent-within; laid = (c .before .before .loop .inv .1 .1); same = (c .before .before .loop .inv .0) .over (c .if1 .left) }
 
 pub rounds-spec : {M : Type 1} → statement M
 rounds-spec =
@@ -1028,9 +950,9 @@ rounds-spec =
     loop-again-5
     sub-returns
     mul-returns
-    array-read-returns
+    element-copy-out-returns
     mul-returns-2
-    array-write-returns
+    element-write-returns
     sub-regs
     add-regs
     price-requires-2
@@ -1045,9 +967,9 @@ rounds-spec =
     loop-again-7
     sub-cells
     mul-cells
-    array-read-cells
+    element-copy-out-cells
     mul-cells-2
-    array-write-cells
+    element-write-cells
     add-regs-2
     price-requires-3
     counted-requires-3
@@ -1059,19 +981,17 @@ rounds-spec =
     by-check-requires-3
     loop-less-9
     loop-again-9
-    mul-frame
-    array-copy-out-frame
-    mul-level
-    array-copy-out-level
     sub-s-after-pop
+    copy-of-r-requires
     s-after-pop-requires
     sub-cells-2
     mul-cells-3
-    array-read-cells-2
+    element-copy-out-cells-2
     mul-cells-4
-    array-write-cells-2
+    element-write-cells-2
     add-regs-3
     sub-regs-2
+    copy-of-s-requires
     e-after-pop-requires
     price-requires-4
     counted-requires-4
@@ -1083,21 +1003,15 @@ rounds-spec =
     by-check-requires-4
     loop-less-11
     loop-again-11
-    mul-below
-    array-copy-out-below
     sub-to
     mul-to
-    array-read-to
+    element-copy-out-to
     mul-returns-3
-    array-write-returns-2
-    add-frames
-    mul-frames
-    array-set-from-frames
-    sub-t114
+    element-write-returns-2
+    called-requires
+    sub-caught
     wrapping-add-u32-requires
-    add-levels
-    mul-levels
-    array-set-from-levels
+    caught-requires
     sub-regs-3
     add-regs-4
     add-regs-5
@@ -1122,15 +1036,15 @@ rounds-spec =
     loop-less-15
     loop-again-15
     enum-known-throw
-    mul-level-2
-    array-copy-out-level-2
-    add-frame
-    mul-frame-2
-    array-copy-out-frame-2
+    copy-of-s-requires-2
+    copy-of-p-requires
     mul-cells-5
-    array-write-cells-3
+    element-write-cells-3
     add-regs-7
+    add-copy-of-r
+    copy-of-r-requires-2
     sub-regs-5
+    throw-address-requires
     price-requires-7
     counted-requires-8
     loop-less-16
@@ -1145,7 +1059,7 @@ rounds-spec =
     read-number-requires
     sub-cells-3
     mul-cells-6
-    array-write-cells-4
+    element-write-cells-4
     price-requires-8
     counted-requires-9
     loop-less-18
@@ -1154,29 +1068,25 @@ rounds-spec =
     read-number-requires-2
     sub-cells-4
     mul-cells-7
-    array-write-cells-5
+    element-write-cells-5
     price-requires-9
     counted-requires-10
     loop-less-19
     loop-again-19
     enum-known-spot-3
-    mul-frame-3
-    array-copy-out-frame-3
     local-requires
     sub-cells-5
     mul-cells-8
-    array-write-cells-6
+    element-write-cells-6
     price-requires-10
     counted-requires-11
     loop-less-20
     loop-again-20
     enum-known-spot-4
-    mul-level-3
-    array-copy-out-level-3
     cell-requires
     sub-cells-6
     mul-cells-9
-    array-write-cells-7
+    element-write-cells-7
     price-requires-11
     counted-requires-12
     loop-less-21
@@ -1190,7 +1100,7 @@ rounds-spec =
     enum-known-spot-5
     sub-write-number
     mul-write-number
-    array-read-write-number
+    element-copy-out-write-number
     write-number-requires
     sub-regs-6
     price-requires-12
@@ -1200,7 +1110,7 @@ rounds-spec =
     enum-known-spot-6
     sub-write-own
     mul-write-own
-    array-read-write-own
+    element-copy-out-write-own
     write-own-requires
     sub-regs-7
     price-requires-13
@@ -1208,28 +1118,20 @@ rounds-spec =
     loop-less-24
     loop-again-24
     enum-known-spot-7
-    mul-frame-4
-    array-copy-out-frame-4
-    sub-with-local
-    mul-with-local
-    array-read-with-local
-    with-local-requires
-    mul-frames-2
-    array-set-from-frames-2
+    sub-set-local
+    mul-set-local
+    element-copy-out-set-local
+    set-local-requires
     sub-regs-8
     price-requires-14
     counted-requires-15
     loop-less-25
     loop-again-25
     enum-known-spot-8
-    mul-level-4
-    array-copy-out-level-4
-    sub-with-cell
-    mul-with-cell
-    array-read-with-cell
-    with-cell-requires
-    mul-levels-2
-    array-set-from-levels-2
+    sub-set-cell
+    mul-set-cell
+    element-copy-out-set-cell
+    set-cell-requires
     sub-regs-9
     price-requires-15
     counted-requires-16
@@ -1242,10 +1144,8 @@ rounds-spec =
     loop-less-27
     loop-again-27
     mul-returns-4
-    array-write-returns-3
-    add-frames-2
-    mul-frames-3
-    array-set-from-frames-3
+    element-write-returns-3
+    called-requires-2
     add-regs-8
     add-regs-9
     price-requires-16
@@ -1260,12 +1160,10 @@ rounds-spec =
     loop-again-29
     sub-to-2
     mul-to-2
-    array-read-to-2
+    element-copy-out-to-2
     mul-returns-5
-    array-write-returns-4
-    add-frames-3
-    mul-frames-4
-    array-set-from-frames-4
+    element-write-returns-4
+    called-requires-3
     sub-regs-10
     add-regs-10
     add-regs-11
@@ -1279,13 +1177,12 @@ rounds-spec =
     by-exit-requires
     loop-less-31
     loop-again-31
-    mul-frame-5
-    array-copy-out-frame-5
-    mul-level-5
-    array-copy-out-level-5
     sub-regs-11
     sub-e-after-drop
+    copy-of-s-requires-3
     e-after-drop-requires
+    copy-of-r-requires-3
+    return-address-requires
     price-requires-18
     counted-requires-19
     loop-less-32
@@ -1305,6 +1202,5 @@ rounds-spec =
     counted-requires-21
     loop-less-35
     loop-again-35
-    finished-requires
     same-length
     returns)

@@ -1,0 +1,49 @@
+-- A machine whose levels stand in rows is that machine again.
+use mathlib.Core.Path.{_≡_, refl, ap, _∙_}
+use mathlib.Core.List.{List, []}
+use Prim.Native.Nat.{ℕ, suc, _+_}
+use lib.ListN.{replicate, length, getD-replicate}
+use Rattle.plain.specs.Laws.All.{all-replicate}
+use Rattle.links.specs.Actions.{noLocals}
+use Rattle.links.specs.Depths.{framesCount, levelsCount, localsCount}
+use Rattle.links.specs.Fresh.{freshFrame, freshLevel, freshLinks}
+use Rattle.links.specs.declared.Frame.{Frame}
+use Rattle.links.specs.declared.Level.{Level}
+use Rattle.machine.specs.Limits.{tasksCount}
+use Rattle.machine.specs.declared.Machine.{Machine}
+use Rattle.run.specs.Machines.{linksOf}
+use Rattle.run.specs.Rows.{tabulated, copiesRoom, framesIn, levelsIn, Laid, Hold, AllLaid, pointersOf, inRows}
+use Rattle.run.specs.declared.Pointers.{Pointers}
+
+pub whole-again : (m : Machine) {rows : List (List ℕ)} {copies : List ℕ} → Hold rows copies (m .links .frames) (m .links .levels) → {at : Pointers} → at ≡ pointersOf m →
+    inRows (m .cells) (m .links .returns) rows copies at ≡ m
+whole-again m {rows} {copies} held e =
+    ap (λ (at : Pointers). inRows (m .cells) (m .links .returns) rows copies at) e ∙
+    (ap (λ (frames : List Frame). with-levels frames (levelsIn rows copies)) (held .frames-are) ∙ ap (with-levels (m .links .frames)) (held .levels-are))
+  where
+    with-levels : List Frame → List Level → Machine
+    with-levels frames levels =
+        record { cells = m .cells; p = m .p; links = linksOf (m .links .returns) (m .links .r) frames (m .links .s) levels (m .links .e); counter = m .counter; flag = m .flag }
+
+-- rows of zeros
+abbrev pub zeroRows : List (List ℕ)
+zeroRows = replicate (framesCount + levelsCount) (replicate (suc localsCount) 0)
+
+abbrev pub zeroCopies : List ℕ
+zeroCopies = replicate copiesRoom 0
+
+pub zeros-laid : Laid zeroRows zeroCopies
+zeros-laid =
+    record {
+      rows-long = refl;
+      rows-wide = all-replicate (λ (row : List ℕ). length row ≡ suc localsCount) (framesCount + levelsCount) (replicate (suc localsCount) 0) refl;
+      copies-long = refl;
+    }
+
+pub zeros-fresh : Hold zeroRows zeroCopies (freshLinks .frames) (freshLinks .levels)
+unfolding framesIn levelsIn tabulated freshLinks freshFrame freshLevel noLocals
+zeros-fresh = record { laid = zeros-laid; frames-are = refl; levels-are = refl }
+
+-- and rows of zeros for each of four
+pub all-zeros-laid : AllLaid (replicate tasksCount zeroRows) (replicate tasksCount zeroCopies)
+all-zeros-laid t h = rw (getD-replicate tasksCount t zeroRows [] h, getD-replicate tasksCount t zeroCopies [] h) zeros-laid

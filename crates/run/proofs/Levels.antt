@@ -1,0 +1,234 @@
+-- Levels in rows: what a store to a row or to the copies makes of them.
+use mathlib.Core.Logic.{_≢_}
+use mathlib.Core.Path.{_≡_, refl, ap, sym, _∙_}
+use mathlib.Core.List.{List, [], _∷_}
+use Prim.Native.Nat.{ℕ, suc, _+_, _<_, _≤_}
+use native.Mathlib.Omega.{arith}
+use lib.ListN.{getD, set, take, length, length-set, replicate}
+use lib.Seq.{getD-set-same, getD-set-other, getD-take, take-set-lt, take-set-le}
+use Rattle.links.specs.Actions.{noLocals, calledFrame}
+use Rattle.links.specs.Depths.{framesCount, levelsCount, localsCount, levelCells, subroutinesDepth, exceptionsDepth}
+use Rattle.links.specs.Linked.{noFrame, noLevel, copyOfR, copyOfS, copyOfP}
+use Rattle.links.specs.declared.Frame.{Frame}
+use Rattle.links.specs.declared.Level.{Level}
+use Rattle.plain.specs.Laws.All.{all-at, all-set}
+use Rattle.run.specs.Rows.{tabulated, frameOf, levelOf, copiesRoom, framesIn, levelsIn, withLocal, withCell, Laid, Hold}
+use Rattle.run.proofs.Tabled.{length-tabulated, tabulated-at, tabulated-same, tabulated-set}
+
+-- a row as wide as a level and its address
+abbrev Wide : List ℕ → Type 0
+Wide row = length row ≡ suc localsCount
+
+-- two lists that agree at a place
+abbrev Alike : {A : Type 0} → List A → List A → A → ℕ → Type 0
+Alike new old d i = getD new i d ≡ getD old i d
+
+module _ (rows : List (List ℕ)) (copies : List ℕ) where
+  -- there are as many levels as each stack has
+  pub frames-long : length (framesIn rows copies) ≡ framesCount
+  unfolding framesIn
+  frames-long = length-tabulated framesCount (frameOf rows copies)
+
+  pub levels-long : length (levelsIn rows copies) ≡ levelsCount
+  unfolding levelsIn
+  levels-long = length-tabulated levelsCount (levelOf rows copies)
+
+  -- a level is read where it stands
+  pub frame-there : (s : ℕ) → s < framesCount → getD (framesIn rows copies) s noFrame ≡ frameOf rows copies s
+  unfolding framesIn
+  frame-there s h = tabulated-at framesCount (frameOf rows copies) s noFrame h
+
+  pub level-there : (e : ℕ) → e < levelsCount → getD (levelsIn rows copies) e noLevel ≡ levelOf rows copies e
+  unfolding levelsIn
+  level-there e h = tabulated-at levelsCount (levelOf rows copies) e noLevel h
+
+  module _ (rows′ : List (List ℕ)) (copies′ : List ℕ) where
+    frame-alike : (i : ℕ) → Alike rows′ rows [] i → Alike copies′ copies 0 i → frameOf rows′ copies′ i ≡ frameOf rows copies i
+    frame-alike i er ec = rw (er, ec)
+
+    level-alike : (i : ℕ) → Alike rows′ rows [] (framesCount + i) → Alike copies′ copies 0 (framesCount + i) → Alike copies′ copies 0 (framesCount + levelsCount + i) →
+        levelOf rows′ copies′ i ≡ levelOf rows copies i
+    level-alike i er es ep = rw (er, es, ep)
+
+    pub frames-same : ((i : ℕ) → i < framesCount → Alike rows′ rows [] i) → ((i : ℕ) → i < framesCount → Alike copies′ copies 0 i) → framesIn rows′ copies′ ≡ framesIn rows copies
+    unfolding framesIn
+    frames-same er ec = tabulated-same framesCount (frameOf rows copies) (frameOf rows′ copies′) (λ i h. frame-alike i (er i h) (ec i h))
+
+    pub levels-same : ((i : ℕ) → i < levelsCount → Alike rows′ rows [] (framesCount + i)) → ((i : ℕ) → i < levelsCount → Alike copies′ copies 0 (framesCount + i)) →
+        ((i : ℕ) → i < levelsCount → Alike copies′ copies 0 (framesCount + levelsCount + i)) → levelsIn rows′ copies′ ≡ levelsIn rows copies
+    unfolding levelsIn
+    levels-same er es ep = tabulated-same levelsCount (levelOf rows copies) (levelOf rows′ copies′) (λ i h. level-alike i (er i h) (es i h) (ep i h))
+
+    pub frame-anew : (s : ℕ) (x : Frame) → s < framesCount → frameOf rows′ copies′ s ≡ x →
+        ((i : ℕ) → i < framesCount → i ≢ s → Alike rows′ rows [] i) → ((i : ℕ) → i < framesCount → i ≢ s → Alike copies′ copies 0 i) →
+        framesIn rows′ copies′ ≡ set (framesIn rows copies) s x
+    unfolding framesIn
+    frame-anew s x h here er ec =
+        tabulated-set framesCount (frameOf rows copies) (frameOf rows′ copies′) s x h here (λ i less ne. frame-alike i (er i less ne) (ec i less ne))
+
+    pub level-anew : (e : ℕ) (x : Level) → e < levelsCount → levelOf rows′ copies′ e ≡ x →
+        ((i : ℕ) → i < levelsCount → i ≢ e → Alike rows′ rows [] (framesCount + i)) → ((i : ℕ) → i < levelsCount → i ≢ e → Alike copies′ copies 0 (framesCount + i)) →
+        ((i : ℕ) → i < levelsCount → i ≢ e → Alike copies′ copies 0 (framesCount + levelsCount + i)) → levelsIn rows′ copies′ ≡ set (levelsIn rows copies) e x
+    unfolding levelsIn
+    level-anew e x h here er es ep =
+        tabulated-set levelsCount (levelOf rows copies) (levelOf rows′ copies′) e x h here (λ i less ne. level-alike i (er i less ne) (es i less ne) (ep i less ne))
+
+-- what is read is the level's
+module _ (copies : List ℕ) where
+  pub read-r : (s : ℕ) → s < framesCount → (rows : List (List ℕ)) → getD copies s 0 ≡ copyOfR (framesIn rows copies) s
+  read-r s h rows = sym (ap (λ (f : Frame). f .r) (frame-there rows copies s h))
+
+  pub read-s : (e : ℕ) → e < levelsCount → (rows : List (List ℕ)) → getD copies (framesCount + e) 0 ≡ copyOfS (levelsIn rows copies) e
+  read-s e h rows = sym (ap (λ (l : Level). l .s) (level-there rows copies e h))
+
+  pub read-p : (e : ℕ) → e < levelsCount → (rows : List (List ℕ)) → getD copies (framesCount + levelsCount + e) 0 ≡ copyOfP (levelsIn rows copies) e
+  read-p e h rows = sym (ap (λ (l : Level). l .p) (level-there rows copies e h))
+
+module _ (rows : List (List ℕ)) where
+  pub read-return : (s : ℕ) → s < framesCount → (copies : List ℕ) → getD (getD rows s []) localsCount 0 ≡ getD (framesIn rows copies) s noFrame .address
+  read-return s h copies = sym (ap (λ (f : Frame). f .address) (frame-there rows copies s h))
+
+  pub read-throw : (e : ℕ) → e < levelsCount → (copies : List ℕ) → getD (getD rows (framesCount + e) []) localsCount 0 ≡ getD (levelsIn rows copies) e noLevel .address
+  read-throw e h copies = sym (ap (λ (l : Level). l .address) (level-there rows copies e h))
+
+  pub read-local : (s k : ℕ) → s < framesCount → k < localsCount → (copies : List ℕ) →
+      getD (getD rows s []) k 0 ≡ getD (getD (framesIn rows copies) s noFrame .locals) k 0
+  read-local s k h within copies =
+      sym (ap (λ (f : Frame). getD (f .locals) k 0) (frame-there rows copies s h) ∙ getD-take localsCount (getD rows s []) k 0 within)
+
+  pub read-cell : (e k : ℕ) → e < levelsCount → k < levelCells → (copies : List ℕ) →
+      getD (getD rows (framesCount + e) []) k 0 ≡ getD (getD (levelsIn rows copies) e noLevel .cells) k 0
+  read-cell e k h within copies =
+      sym (ap (λ (l : Level). getD (l .cells) k 0) (level-there rows copies e h) ∙ getD-take levelCells (getD rows (framesCount + e) []) k 0 within)
+
+-- the levels after a store
+module _ (rows : List (List ℕ)) (copies : List ℕ) (laid : Laid rows copies) where
+  -- every row is as wide as a level and its address
+  pub wide-at : (n : ℕ) → n < framesCount + levelsCount → length (getD rows n []) ≡ suc localsCount
+  wide-at n h = all-at Wide rows (laid .rows-wide) n [] (omega (arith, laid .rows-long))
+
+  with-row : (n : ℕ) (row : List ℕ) → length row ≡ suc localsCount → (copies′ : List ℕ) → length copies′ ≡ copiesRoom → Laid (set rows n row) copies′
+  with-row n row wide copies′ long =
+      record { rows-long = length-set rows n row ∙ laid .rows-long; rows-wide = all-set Wide rows (laid .rows-wide) n row wide; copies-long = long }
+
+  -- to one number of a row
+  pub local-stored : (s k value : ℕ) → s < framesCount → k < localsCount →
+      Hold (set rows s (set (getD rows s []) k value)) copies (set (framesIn rows copies) s (withLocal (getD (framesIn rows copies) s noFrame) k value)) (levelsIn rows copies)
+  local-stored s k value h within =
+      let old = getD rows s [] in
+      let row = set old k value in
+      let there : getD (set rows s row) s [] ≡ row = getD-set-same rows s row [] (omega (arith, laid .rows-long)) in
+      let front : take localsCount row ≡ set (take localsCount old) k value = take-set-lt localsCount old k value within in
+      let end : getD row localsCount 0 ≡ getD old localsCount 0 = getD-set-other old k localsCount value 0 (λ e. omega arith) in
+      record {
+        laid = with-row s row (length-set old k value ∙ wide-at s (omega arith)) copies (laid .copies-long);
+        frames-are =
+            frame-anew rows copies (set rows s row) copies s (withLocal (getD (framesIn rows copies) s noFrame) k value) h
+            (rw (frame-there rows copies s h, there, front, end)) (λ i less ne. getD-set-other rows s i row [] ne) (λ i less ne. refl);
+        levels-are =
+            levels-same rows copies (set rows s row) copies (λ i less. getD-set-other rows s (framesCount + i) row [] (λ e. omega arith)) (λ i less. refl)
+            (λ i less. refl);
+      }
+
+  pub cell-stored : (e k value : ℕ) → e < levelsCount → k < levelCells →
+      Hold (set rows (framesCount + e) (set (getD rows (framesCount + e) []) k value)) copies (framesIn rows copies)
+      (set (levelsIn rows copies) e (withCell (getD (levelsIn rows copies) e noLevel) k value))
+  cell-stored e k value h within =
+      let at = framesCount + e in
+      let old = getD rows at [] in
+      let row = set old k value in
+      let there : getD (set rows at row) at [] ≡ row = getD-set-same rows at row [] (omega (arith, laid .rows-long)) in
+      let front : take levelCells row ≡ set (take levelCells old) k value = take-set-lt levelCells old k value within in
+      let end : getD row localsCount 0 ≡ getD old localsCount 0 = getD-set-other old k localsCount value 0 (λ e. omega arith) in
+      record {
+        laid = with-row at row (length-set old k value ∙ wide-at at (omega arith)) copies (laid .copies-long);
+        frames-are = frames-same rows copies (set rows at row) copies (λ i less. getD-set-other rows at i row [] (λ e. omega arith)) (λ i less. refl);
+        levels-are =
+            level-anew rows copies (set rows at row) copies e (withCell (getD (levelsIn rows copies) e noLevel) k value) h
+            (rw (level-there rows copies e h, there, front, end)) (λ i less ne. getD-set-other rows at (framesCount + i) row [] (λ e. ne (omega arith)))
+            (λ i less ne. refl) (λ i less ne. refl);
+      }
+
+  -- of a whole row, with its copies
+  pub frame-put : (n : ℕ) (row : List ℕ) (r : ℕ) → n < framesCount → length row ≡ suc localsCount →
+      Hold (set rows n row) (set copies n r) (set (framesIn rows copies) n (record { locals = take localsCount row; r = r; address = getD row localsCount 0 })) (levelsIn rows copies)
+  frame-put n row r h wide =
+      let there : getD (set rows n row) n [] ≡ row = getD-set-same rows n row [] (omega (arith, laid .rows-long)) in
+      let copied : getD (set copies n r) n 0 ≡ r = getD-set-same copies n r 0 (omega (arith, laid .copies-long)) in
+      record {
+        laid = with-row n row wide (set copies n r) (length-set copies n r ∙ laid .copies-long);
+        frames-are =
+            frame-anew rows copies (set rows n row) (set copies n r) n (record { locals = take localsCount row; r = r; address = getD row localsCount 0 }) h
+            (rw (there, copied)) (λ i less ne. getD-set-other rows n i row [] ne) (λ i less ne. getD-set-other copies n i r 0 ne);
+        levels-are =
+            levels-same rows copies (set rows n row) (set copies n r) (λ i less. getD-set-other rows n (framesCount + i) row [] (λ e. omega arith))
+            (λ i less. getD-set-other copies n (framesCount + i) r 0 (λ e. omega arith))
+            (λ i less. getD-set-other copies n (framesCount + levelsCount + i) r 0 (λ e. omega arith));
+      }
+
+  pub level-put : (n : ℕ) (row : List ℕ) (s p : ℕ) → n < levelsCount → length row ≡ suc localsCount →
+      Hold (set rows (framesCount + n) row) (set (set copies (framesCount + n) s) (framesCount + levelsCount + n) p) (framesIn rows copies)
+      (set (levelsIn rows copies) n (record { cells = take levelCells row; s = s; p = p; address = getD row localsCount 0 }))
+  level-put n row s p h wide =
+      let at = framesCount + n in
+      let beside = framesCount + levelsCount + n in
+      let rows′ = set rows at row in
+      let mid = set copies at s in
+      let copies′ = set mid beside p in
+      let same-long : length mid ≡ copiesRoom = length-set copies at s ∙ laid .copies-long in
+      let there : getD rows′ at [] ≡ row = getD-set-same rows at row [] (omega (arith, laid .rows-long)) in
+      let copied-p : getD copies′ beside 0 ≡ p = getD-set-same mid beside p 0 (omega (arith, same-long)) in
+      let copied-s : getD copies′ at 0 ≡ s = getD-set-other mid beside at p 0 (λ e. omega arith) ∙ getD-set-same copies at s 0 (omega (arith, laid .copies-long)) in
+      let other : (i : ℕ) → i ≢ at → i ≢ beside → getD copies′ i 0 ≡ getD copies i 0 = λ i a b. getD-set-other mid beside i p 0 b ∙ getD-set-other copies at i s 0 a in
+      record {
+        laid = with-row at row wide copies′ (length-set mid beside p ∙ same-long);
+        frames-are =
+            frames-same rows copies rows′ copies′ (λ i less. getD-set-other rows at i row [] (λ e. omega arith)) (λ i less. other i (λ e. omega arith) (λ e. omega arith));
+        levels-are =
+            level-anew rows copies rows′ copies′ n (record { cells = take levelCells row; s = s; p = p; address = getD row localsCount 0 }) h
+            (rw (there, copied-s, copied-p)) (λ i less ne. getD-set-other rows at (framesCount + i) row [] (λ e. ne (omega arith)))
+            (λ i less ne. other (framesCount + i) (λ e. ne (omega arith)) (λ e. omega arith))
+            (λ i less ne. other (framesCount + levelsCount + i) (λ e. omega arith) (λ e. ne (omega arith)));
+      }
+
+  -- a call makes the level above
+  pub called-made : (s r address : ℕ) → s < subroutinesDepth →
+      Hold (set rows (s + 1) (set (replicate (suc localsCount) 0) localsCount address)) (set copies (s + 1) r) (set (framesIn rows copies) (s + 1) (calledFrame r address))
+      (levelsIn rows copies)
+  unfolding noLocals
+  called-made s r address h = frame-put (s + 1) (set (replicate (suc localsCount) 0) localsCount address) r (omega arith) refl
+
+  -- a CATCH makes the level above, with the cells of the level below
+  pub caught-made : (e s p address : ℕ) → e < exceptionsDepth →
+      Hold (set rows (framesCount + e + 1) (set (getD rows (framesCount + e) []) localsCount address))
+      (set (set copies (framesCount + e + 1) s) (framesCount + levelsCount + e + 1) p) (framesIn rows copies)
+      (set (levelsIn rows copies) (e + 1) (record { cells = getD (levelsIn rows copies) e noLevel .cells; s = s; p = p; address = address }))
+  caught-made e s p address h =
+      let below = getD rows (framesCount + e) [] in
+      let row = set below localsCount address in
+      let wide : length below ≡ suc localsCount = wide-at (framesCount + e) (omega arith) in
+      let up : framesCount + e + 1 ≡ framesCount + (e + 1) = omega arith in
+      let beside : framesCount + levelsCount + e + 1 ≡ framesCount + levelsCount + (e + 1) = omega arith in
+      let end : getD row localsCount 0 ≡ address = getD-set-same below localsCount address 0 (omega (arith, wide)) in
+      let held : take levelCells row ≡ getD (levelsIn rows copies) e noLevel .cells =
+      take-set-le levelCells below localsCount address (omega arith) ∙ sym (ap (λ (l : Level). l .cells) (level-there rows copies e (omega arith))) in
+      let made : _≡_ {A = Level} (record { cells = take levelCells row; s = s; p = p; address = getD row localsCount 0 })
+      (record { cells = getD (levelsIn rows copies) e noLevel .cells; s = s; p = p; address = address }) =
+      ap (λ (l : List ℕ). record { cells = l; s = s; p = p; address = getD row localsCount 0 }) held ∙
+      ap (λ (a : ℕ). record { cells = getD (levelsIn rows copies) e noLevel .cells; s = s; p = p; address = a }) end in
+      let put = level-put (e + 1) row s p (omega arith) (length-set below localsCount address ∙ wide) in
+      rw (up, beside)
+      (record { laid = put .laid; frames-are = put .frames-are; levels-are = put .levels-are ∙ ap (λ (l : Level). set (levelsIn rows copies) (e + 1) l) made })
+
+-- a CATCH does all that a call does first
+pub caught-above : {rows rows′ : List (List ℕ)} {copies copies′ : List ℕ} {frames : List Frame} {levels : List Level} (e s p address : ℕ) → Hold rows copies frames levels →
+    Hold rows′ copies′ (framesIn rows copies) (set (levelsIn rows copies) (e + 1) (record { cells = getD (levelsIn rows copies) e noLevel .cells; s = s; p = p; address = address })) →
+    Hold rows′ copies′ frames (set levels (e + 1) (record { cells = getD levels e noLevel .cells; s = s; p = p; address = address }))
+caught-above e s p address call catch =
+    record {
+      laid = catch .laid;
+      frames-are = catch .frames-are ∙ call .frames-are;
+      levels-are =
+          catch .levels-are ∙
+          ap (λ (l : List Level). set l (e + 1) (record { cells = getD l e noLevel .cells; s = s; p = p; address = address })) (call .levels-are);
+    }

@@ -1,0 +1,44 @@
+-- Made by .ci/named from any.rules: 3f97286a7ba65e5b 20b974fad96165a4
+-- The machine's levels go to rows, the loop runs, and the rows become the machine handed back.
+use mathlib.Core.Path.{_≡_, refl, ap, sym, _∙_, subst⁻¹}
+use mathlib.Core.Bool.{true, false}
+use native.Mathlib.Omega.{arith}
+use Rattle.machine.specs.Codes.{table, cycleTable}
+use Rattle.machine.specs.Reach.{alone}
+use Rattle.machine.specs.Run.{acceptable, runFrom}
+use Rattle.machine.specs.declared.Machine.{Machine}
+use Rattle.run.proofs.Again.{whole-again, zeros-laid}
+use Rattle.run.proofs.Levels.{frames-long, levels-long}
+use borrow.Author.Needs.{needs}
+use Rattle.run.proofs.alone.any.Statement.{statement}
+use Rattle.run.proofs.alone.any.Tie as tie
+
+apart-requires : tie.Need-apart-requires
+apart-requires c κs = zeros-laid
+
+pointers-requires : tie.Need-pointers-requires
+pointers-requires c κs = search needs
+
+rounds-requires : tie.Need-rounds-requires
+unfolding cycleTable table
+rounds-requires c κs = record { accepted = subst⁻¹ (λ (m : Machine). acceptable (c .before .before .before .before .before .before .before .before .before .before .before .before .before .before .args .mem .now) m (c .before .before .before .before .before .before .before .before .before .before .before .before .before .before .args .budget) ≡ true) (whole-again (c .before .before .before .before .before .before .before .before .before .before .before .before .before .before .args .machine) (c .before .before .before .before .before .before .before .apart .ensures) (c .before .before .before .before .before .before .pointers .ensures)) (c .before .before .before .before .before .before .before .before .before .before .before .before .before .before .pre); whole = record { cells-long = search needs; shaped = record { returns-long = search needs; frames-long = frames-long _ _; levels-long = levels-long _ _ } }; laid = c .before .before .before .before .before .before .before .apart .ensures .laid; bounded = record { shared-within = omega arith; end-within = omega arith }; priced = refl }
+
+finished-requires : tie.Need-finished-requires
+finished-requires c κs = (c .before .before .before .before .before .before .rounds .ensures .unspent-within, c .before .before .before .before .before .before .rounds .ensures .laid)
+
+same-length : tie.Need-same-length
+same-length c = search needs
+
+returns : tie.Need-returns
+returns c = c .finished .ensures (c .before .before .before .before .before .before .before .rounds .last .0) ∙ (c .before .before .before .before .before .before .before .rounds .ensures .same ∙ ap (λ (m : Machine). runFrom alone false (c .before .before .before .before .before .before .before .before .before .before .before .before .before .before .before .before .before .before .before .before .before .before .args .budget) (c .before .before .before .before .before .before .before .before .before .before .before .before .before .before .before .before .before .before .before .before .before .before .args .mem .now) m 0 0) (whole-again (c .before .before .before .before .before .before .before .before .before .before .before .before .before .before .before .before .before .before .before .before .before .before .args .machine) (c .before .before .before .before .before .before .before .before .before .before .before .before .before .before .before .apart .ensures) (c .before .before .before .before .before .before .before .before .before .before .before .before .before .before .pointers .ensures)))
+
+pub any-spec : {M : Type 1} → statement M
+any-spec =
+    tie.close
+    (tie.spec
+    apart-requires
+    pointers-requires
+    rounds-requires
+    finished-requires
+    same-length
+    returns)

@@ -1,0 +1,31 @@
+-- Made by .ci/named from local.rules: cd24e5f802f7fc5d 399dfe7f901e8dc1
+-- The locals are the front of the level's row.
+use Rattle.run.proofs.Levels.{read-local}
+use borrow.Author.Needs.{needs}
+use Rattle.run.proofs.linked.local.Statement.{statement}
+use Rattle.run.proofs.linked.local.Tie as tie
+
+mul-result : tie.Need-mul-result
+mul-result c = search needs
+
+mul-result-2 : tie.Need-mul-result-2
+mul-result-2 c = search needs
+
+index-1-result : tie.Need-index-1-result
+index-1-result c = search needs
+
+index-2-result : tie.Need-index-2-result
+index-2-result c = search needs
+
+returns : tie.Need-returns
+returns c = read-local (c .before .args .rows .now) (c .before .args .s) (c .before .args .k) (c .before .pre .0) (c .before .pre .1)
+
+pub local-spec : {M : Type 1} → statement M
+local-spec =
+    tie.close
+    (tie.spec
+    mul-result
+    mul-result-2
+    index-1-result
+    index-2-result
+    returns)

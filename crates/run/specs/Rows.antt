@@ -1,0 +1,102 @@
+-- A machine as the loop has it: a row of numbers for each level, since no array of structs can be lent.
+use mathlib.Core.Path.{_≡_}
+use mathlib.Core.List.{List, [], _∷_}
+use Prim.Native.Nat.{ℕ, zero, suc, _+_, _<_}
+use lib.ListN.{getD, set, take, length}
+use Rattle.plain.specs.All.{All}
+use Rattle.links.specs.Depths.{framesCount, levelsCount, localsCount, levelCells}
+use Rattle.links.specs.declared.Frame.{Frame}
+use Rattle.links.specs.declared.Level.{Level}
+use Rattle.machine.specs.Limits.{tasksCount}
+use Rattle.machine.specs.declared.Machine.{Machine}
+use Rattle.run.specs.Machines.{linksOf}
+use Rattle.run.specs.declared.Pointers.{Pointers}
+use Rattle.run.specs.declared.Registers.{Registers}
+
+-- so many elements, each by its place
+unfoldable pub tabulated : {A : Type 0} → ℕ → (ℕ → A) → List A
+tabulated zero at = []
+tabulated (suc n) at = at 0 ∷ tabulated n (λ i. at (suc i))
+
+-- the copies of R, S and P are 51; there is room for more
+abbrev pub copiesRoom : ℕ
+copiesRoom = 64
+
+-- subroutine level s: its locals and its return address are a row, and the copy of R stands beside
+abbrev pub frameOf : List (List ℕ) → List ℕ → ℕ → Frame
+frameOf rows copies s =
+    record { locals = take localsCount (getD rows s []); r = getD copies s 0; address = getD (getD rows s []) localsCount 0 }
+
+-- exception level e: its cells and its throw address are a row behind those, and so are the copies of S and of P
+abbrev pub levelOf : List (List ℕ) → List ℕ → ℕ → Level
+levelOf rows copies e =
+    record {
+      cells = take levelCells (getD rows (framesCount + e) []);
+      s = getD copies (framesCount + e) 0;
+      p = getD copies (framesCount + levelsCount + e) 0;
+      address = getD (getD rows (framesCount + e) []) localsCount 0;
+    }
+
+unfoldable pub framesIn : List (List ℕ) → List ℕ → List Frame
+framesIn rows copies = tabulated framesCount (frameOf rows copies)
+
+unfoldable pub levelsIn : List (List ℕ) → List ℕ → List Level
+levelsIn rows copies = tabulated levelsCount (levelOf rows copies)
+
+-- the lists are as long as the arrays that they stand for
+pub record Laid (rows : List (List ℕ)) (copies : List ℕ) : Type 0 where
+  pub rows-long : length rows ≡ framesCount + levelsCount
+  pub rows-wide : All (λ (row : List ℕ). length row ≡ suc localsCount) rows
+  pub copies-long : length copies ≡ copiesRoom
+
+-- rows and copies that hold these levels
+pub record Hold (rows : List (List ℕ)) (copies : List ℕ) (frames : List Frame) (levels : List Level) : Type 0 where
+  pub laid : Laid rows copies
+  pub frames-are : framesIn rows copies ≡ frames
+  pub levels-are : levelsIn rows copies ≡ levels
+
+-- a level with one local or one cell anew
+abbrev pub withLocal : Frame → ℕ → ℕ → Frame
+withLocal frame k value = record { locals = set (frame .locals) k value; r = frame .r; address = frame .address }
+
+abbrev pub withCell : Level → ℕ → ℕ → Level
+withCell level k value = record { cells = set (level .cells) k value; s = level .s; p = level .p; address = level .address }
+
+-- what a machine has beside its arrays
+abbrev pub pointersOf : Machine → Pointers
+pointersOf m =
+    record { p = m .p; r = m .links .r; s = m .links .s; e = m .links .e; counter = m .counter; flag = m .flag }
+
+abbrev pub pointersIn : Registers → Pointers
+pointersIn g = record { p = g .p; r = g .r; s = g .s; e = g .e; counter = g .counter; flag = g .flag }
+
+abbrev pub inRows : List ℕ → List ℕ → List (List ℕ) → List ℕ → Pointers → Machine
+inRows cells returns rows copies at =
+    record {
+      cells = cells;
+      p = at .p;
+      links = linksOf returns (at .r) (framesIn rows copies) (at .s) (levelsIn rows copies) (at .e);
+      counter = at .counter;
+      flag = at .flag;
+    }
+
+-- four machines, each in its own place of such arrays
+abbrev pub noPointers : Pointers
+noPointers = record { p = 0; r = 0; s = 0; e = 0; counter = 0; flag = 0 }
+
+abbrev pub taskIn : List (List ℕ) → List (List ℕ) → List (List (List ℕ)) → List (List ℕ) → List Pointers → ℕ → Machine
+taskIn cells returns rows copies saved t =
+    inRows (getD cells t []) (getD returns t []) (getD rows t []) (getD copies t []) (getD saved t noPointers)
+
+unfoldable pub machinesIn : List (List ℕ) → List (List ℕ) → List (List (List ℕ)) → List (List ℕ) → List Pointers → List Machine
+machinesIn cells returns rows copies saved = tabulated tasksCount (taskIn cells returns rows copies saved)
+
+abbrev pub AllLaid : List (List (List ℕ)) → List (List ℕ) → Type 0
+AllLaid rows copies = (t : ℕ) → t < tasksCount → Laid (getD rows t []) (getD copies t [])
+
+-- arrays of four
+pub record Seats (cells returns : List (List ℕ)) (rows : List (List (List ℕ))) (copies : List (List ℕ)) (saved : List Pointers) : Type 0 where
+  pub cells-long : length cells ≡ tasksCount
+  pub returns-long : length returns ≡ tasksCount
+  pub saved-long : length saved ≡ tasksCount
+  pub laid : AllLaid rows copies

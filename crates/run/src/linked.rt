@@ -1,0 +1,122 @@
+// The subroutine and the exception levels as the loop has them: a row of numbers for each level, its cells and its address; and the
+// copies of R, S and P beside them. No array of structs can be lent (docs/DECISIONS.md), and each further array costs a turn four
+// instructions.
+use links::Frame;
+use links::Level;
+use links::Links;
+ghost use mathlib.Core.List.{List};
+ghost use mathlib.Core.Path.{_≡_};
+ghost use Prim.Native.Nat.{ℕ, _+_, _<_, _≤_};
+ghost use lib.ListN.{getD, set};
+ghost use Rattle.links.specs.Actions.{calledFrame};
+ghost use Rattle.links.specs.Depths.{framesCount, levelsCount, localsCount, levelCells, subroutinesDepth, exceptionsDepth};
+ghost use Rattle.links.specs.Linked.{noFrame, noLevel, copyOfR, copyOfS, copyOfP};
+ghost use Rattle.run.specs.Rows.{framesIn, levelsIn, withLocal, withCell, Laid, Hold};
+
+// The rows of the subroutine levels, then those of the exception levels.
+pub(crate) const ROWS: usize = Links::FRAMES + Links::LEVELS;
+
+// 16 locals or 8 cells, and the address at the row's end.
+pub(crate) const ROW: usize = Frame::LOCALS + 1;
+
+// The copies of R, then those of S, then those of P: 51, and room up to a power of two, so that a task's place is found by a shift.
+pub(crate) const COPIES: usize = 64;
+
+pub(crate) fn copy_of_r(copies: &[usize; COPIES], s: usize) -> usize
+    requires { ⌜ s < framesCount ⌝ }
+    ensures { λ r. ⌜ ((rows : List (List ℕ)) → r ≡ copyOfR (framesIn rows (now (copies .entry))) s) ⌝ }
+{
+    copies[s]
+}
+
+pub(crate) fn copy_of_s(copies: &[usize; COPIES], e: usize) -> usize
+    requires { ⌜ e < levelsCount ⌝ }
+    ensures { λ r. ⌜ ((rows : List (List ℕ)) → r ≡ copyOfS (levelsIn rows (now (copies .entry))) e) ⌝ }
+{
+    copies[Links::FRAMES + e]
+}
+
+pub(crate) fn copy_of_p(copies: &[usize; COPIES], e: usize) -> usize
+    requires { ⌜ e < levelsCount ⌝ }
+    ensures { λ r. ⌜ ((rows : List (List ℕ)) → r ≡ copyOfP (levelsIn rows (now (copies .entry))) e) ⌝ }
+{
+    copies[Links::FRAMES + Links::LEVELS + e]
+}
+
+pub(crate) fn return_address(rows: &[[u32; ROW]; ROWS], s: usize) -> u32
+    requires { ⌜ s < framesCount ⌝ }
+    ensures { λ r. ⌜ ((copies : List ℕ) → r ≡ getD (framesIn (now (rows .entry)) copies) s noFrame .address) ⌝ }
+{
+    rows[s][Frame::LOCALS]
+}
+
+pub(crate) fn throw_address(rows: &[[u32; ROW]; ROWS], e: usize) -> u32
+    requires { ⌜ e < levelsCount ⌝ }
+    ensures { λ r. ⌜ ((copies : List ℕ) → r ≡ getD (levelsIn (now (rows .entry)) copies) e noLevel .address) ⌝ }
+{
+    rows[Links::FRAMES + e][Frame::LOCALS]
+}
+
+pub(crate) fn local(rows: &[[u32; ROW]; ROWS], s: usize, k: usize) -> u32
+    requires { ⌜ (s < framesCount) × (k < localsCount) ⌝ }
+    ensures { λ r. ⌜ ((copies : List ℕ) → r ≡ getD (getD (framesIn (now (rows .entry)) copies) s noFrame .locals) k 0) ⌝ }
+{
+    rows[s][k]
+}
+
+pub(crate) fn cell(rows: &[[u32; ROW]; ROWS], e: usize, k: usize) -> u32
+    requires { ⌜ (e < levelsCount) × (k < levelCells) ⌝ }
+    ensures { λ r. ⌜ ((copies : List ℕ) → r ≡ getD (getD (levelsIn (now (rows .entry)) copies) e noLevel .cells) k 0) ⌝ }
+{
+    rows[Links::FRAMES + e][k]
+}
+
+pub(crate) fn set_local(rows: &mut [[u32; ROW]; ROWS], s: usize, k: usize, value: u32)
+    requires { ⌜ (s < framesCount) × (k < localsCount) ⌝ }
+    ensures { λ _. ⌜ ((copies : List ℕ) → Laid (now (rows .entry)) copies → Hold (now (rows .exit)) copies (set (framesIn (now (rows .entry)) copies) s (withLocal (getD (framesIn (now (rows .entry)) copies) s noFrame) k value)) (levelsIn (now (rows .entry)) copies)) ⌝ }
+{
+    rows[s][k] = value;
+}
+
+pub(crate) fn set_cell(rows: &mut [[u32; ROW]; ROWS], e: usize, k: usize, value: u32)
+    requires { ⌜ (e < levelsCount) × (k < levelCells) ⌝ }
+    ensures { λ _. ⌜ ((copies : List ℕ) → Laid (now (rows .entry)) copies → Hold (now (rows .exit)) copies (framesIn (now (rows .entry)) copies) (set (levelsIn (now (rows .entry)) copies) e (withCell (getD (levelsIn (now (rows .entry)) copies) e noLevel) k value))) ⌝ }
+{
+    rows[Links::FRAMES + e][k] = value;
+}
+
+// A call makes level s + 1.
+pub(crate) fn called(
+    rows: &mut [[u32; ROW]; ROWS],
+    copies: &mut [usize; COPIES],
+    r: usize,
+    s: usize,
+    address: u32,
+)
+    requires { ⌜ s < subroutinesDepth ⌝ }
+    ensures { λ _. ⌜ (Laid (now (rows .entry)) (now (copies .entry)) → Hold (now (rows .exit)) (now (copies .exit)) (set (framesIn (now (rows .entry)) (now (copies .entry))) (s + 1) (calledFrame r address)) (levelsIn (now (rows .entry)) (now (copies .entry)))) ⌝ }
+{
+    let mut row = [0u32; ROW];
+    row[Frame::LOCALS] = address;
+    rows[s + 1] = row;
+    copies[s + 1] = r;
+}
+
+// A CATCH makes level e + 1, with the cells of level e.
+pub(crate) fn caught(
+    rows: &mut [[u32; ROW]; ROWS],
+    copies: &mut [usize; COPIES],
+    e: usize,
+    s: usize,
+    p: usize,
+    address: u32,
+)
+    requires { ⌜ e < exceptionsDepth ⌝ }
+    ensures { λ _. ⌜ (Laid (now (rows .entry)) (now (copies .entry)) → Hold (now (rows .exit)) (now (copies .exit)) (framesIn (now (rows .entry)) (now (copies .entry))) (set (levelsIn (now (rows .entry)) (now (copies .entry))) (e + 1) (record { cells = getD (levelsIn (now (rows .entry)) (now (copies .entry))) e noLevel .cells; s = s; p = p; address = address }))) ⌝ }
+{
+    let mut row = rows[Links::FRAMES + e];
+    row[Frame::LOCALS] = address;
+    rows[Links::FRAMES + e + 1] = row;
+    copies[Links::FRAMES + e + 1] = s;
+    copies[Links::FRAMES + Links::LEVELS + e + 1] = p;
+}
