@@ -6,14 +6,17 @@ use Prim.Native.Nat.{ℕ, _+_, _*_, _≤_, _<_}
 use native.Mathlib.Omega.{arith}
 use borrow.Author.Tests.{eq-eqb, le-leb}
 use lib.Dec.{T}
-use lib.ListN.{length}
+use lib.ListN.{length, replicate}
 use Rattle.plain.specs.All.{All}
 use Rattle.plain.specs.Laws.All.{all-at, all-set}
 use Rattle.plain.specs.Laws.Choice.{is-true}
 use Rattle.machine.specs.Laws.Circular.{next-ready}
 use Rattle.machine.specs.Limits.{memoryLength, mostBudget, mostQuantum, tasksCount}
 use Rattle.machine.specs.Reach.{task}
-use Rattle.machine.specs.Tasks.{Task, taskAt, Between, TasksAfter, endedAt, turnLength, turnOf, afterTurn, canKeep, allGood, TurnsFrom, tasksAcceptable, RunsTasks, declined, ran, AllWhole, leftBy, noTask}
+use Rattle.links.specs.Fresh.{freshLinks}
+use Rattle.links.specs.Linked.{linked}
+use Rattle.machine.specs.State.{wellFormed, machineWith, freshMachine}
+use Rattle.machine.specs.Tasks.{Task, freshTask, isReady, taskAt, Between, TasksAfter, endedAt, turnLength, turnOf, afterTurn, canKeep, allGood, TurnsFrom, tasksAcceptable, RunsTasks, declined, ran, AllWhole, leftBy, noTask}
 use Rattle.machine.specs.Tasks as runs
 use Rattle.machine.specs.Laws.Clash.{clash}
 use Rattle.machine.specs.Laws.Costs.{run-bounded}
@@ -26,6 +29,16 @@ use Rattle.machine.specs.Laws.Turns.{GoodTask, good-tasks, all-good, turn-withi
 -- the numbers with which a turn ends: 1, or 0, 3 to 13 and 17, by which an instruction is refused
 pub turn-answer : (quantum : ℕ) (b : Between) (t : ℕ) → T (canKeep (turnOf quantum b t .ran .answer))
 turn-answer quantum b t = turn-keeps (task t) (turnLength quantum (b .left)) (b .memory) (taskAt (b .tasks) t .machine)
+
+-- fresh tasks are ready, and a run takes four of them
+pub fresh-ready : isReady freshTask ≡ true
+fresh-ready = refl
+
+pub fresh-taken : (mem : List ℕ) (quantum budget : ℕ) → length mem ≡ memoryLength → budget ≤ mostBudget → 1 ≤ quantum → quantum ≤ mostQuantum →
+    tasksAcceptable mem (replicate tasksCount freshTask) quantum budget ≡ true
+unfolding tasksAcceptable wellFormed linked freshMachine machineWith freshLinks
+fresh-taken mem quantum budget long limit some most =
+    rw (eq-eqb (length mem) memoryLength long, le-leb budget mostBudget limit, le-leb 1 quantum some, le-leb quantum mostQuantum most)
 
 -- what holds between the turns of a run
 record Holds (budget : ℕ) (b : Between) : Type 0 where
