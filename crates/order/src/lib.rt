@@ -1,7 +1,7 @@
 // Whose turn it is.
 use machine::Tasks;
 ghost use mathlib.Core.Path.{_≡_};
-ghost use Prim.Native.Nat.{_+_, _%_, _<_};
+ghost use Prim.Native.Nat.{_+_, _%_};
 ghost use Rattle.machine.specs.Limits.{tasksCount};
 ghost use Rattle.machine.specs.Tasks.{inOrder, following};
 ghost use Rattle.order.specs.Order.{firstKept, saysNext};

@@ -1,5 +1,4 @@
 -- What bars some bytes, as the functions answer it, and the first address past a reach.
-use mathlib.Core.Bool.{Bool}
 use Prim.Native.Nat.{ℕ}
 use lib.Dec.{ltb}
 use Rattle.plain.specs.Choice.{pick}

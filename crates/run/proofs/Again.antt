@@ -12,7 +12,7 @@ use Rattle.links.specs.declared.Level.{Level}
 use Rattle.machine.specs.Limits.{tasksCount}
 use Rattle.machine.specs.declared.Machine.{Machine}
 use Rattle.run.specs.Machines.{linksOf}
-use Rattle.run.specs.Rows.{tabulated, copiesRoom, framesIn, levelsIn, Laid, Hold, AllLaid, pointersOf, inRows}
+use Rattle.run.specs.Levels.{tabulated, copiesRoom, framesIn, levelsIn, Laid, Hold, AllLaid, pointersOf, inRows}
 use Rattle.run.specs.declared.Pointers.{Pointers}
 
 pub whole-again : (m : Machine) {rows : List (List ℕ)} {copies : List ℕ} → Hold rows copies (m .links .frames) (m .links .levels) → {at : Pointers} → at ≡ pointersOf m →

@@ -35,7 +35,7 @@ use Rattle.run.specs.Answers.{stepBy}
 use Rattle.run.specs.Machines.{inReach, linksOf}
 use Rattle.run.specs.Promises.{CarriesOut, Spells, Unaltered}
 use Rattle.run.specs.Registers.{machineIn, movedTo, haltedBy}
-use Rattle.run.specs.Rows.{framesIn, levelsIn, Hold}
+use Rattle.run.specs.Levels.{framesIn, levelsIn, Hold}
 use Rattle.run.specs.Verdicts.{pushable, readable, callable, catchable, throwable, exitable, sAfterPop, eAfterDropOf, eAfterPop}
 use Rattle.run.specs.declared.Registers.{Registers}
 use Rattle.run.specs.declared.Stack.{Stack}

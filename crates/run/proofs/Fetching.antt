@@ -1,5 +1,5 @@
 -- What stands at an address of memory, by what follows its first byte.
-use mathlib.Core.Path.{_≡_, refl, sym, _∙_, ap, subst}
+use mathlib.Core.Path.{_≡_, refl, _∙_, ap, subst}
 use mathlib.Core.Bool.{Bool, true, false}
 use mathlib.Core.List.{List}
 use Prim.Native.Nat.{ℕ, suc, _+_, _-_, _≤_, _<_, _%_, _^_}
@@ -17,7 +17,7 @@ use Rattle.machine.specs.Laws.Bars.{shared-free, first-barred, inside-free, cut
 use Rattle.machine.specs.Laws.Lengths.{a-byte, five-bytes}
 use Rattle.machine.specs.declared.Reach.{Reach}
 use Rattle.run.specs.Machines.{inReach}
-use Rattle.run.specs.Promises.{fetchedOf, Fetches}
+use Rattle.run.specs.Promises.{Fetches}
 use Rattle.run.proofs.Answered.{apart}
 
 module _ (mem : List ℕ) (at code : ℕ) (kind : Operand)

@@ -1,8 +1,8 @@
 -- Levels in rows: what a store to a row or to the copies makes of them.
 use mathlib.Core.Logic.{_≢_}
 use mathlib.Core.Path.{_≡_, refl, ap, sym, _∙_}
-use mathlib.Core.List.{List, [], _∷_}
-use Prim.Native.Nat.{ℕ, suc, _+_, _<_, _≤_}
+use mathlib.Core.List.{List, []}
+use Prim.Native.Nat.{ℕ, suc, _+_, _<_}
 use native.Mathlib.Omega.{arith}
 use lib.ListN.{getD, set, take, length, length-set, replicate}
 use lib.Seq.{getD-set-same, getD-set-other, getD-take, take-set-lt, take-set-le}
@@ -12,7 +12,7 @@ use Rattle.links.specs.Linked.{noFrame, noLevel, copyOfR, copyOfS, copyOfP}
 use Rattle.links.specs.declared.Frame.{Frame}
 use Rattle.links.specs.declared.Level.{Level}
 use Rattle.plain.specs.Laws.All.{all-at, all-set}
-use Rattle.run.specs.Rows.{tabulated, frameOf, levelOf, copiesRoom, framesIn, levelsIn, withLocal, withCell, Laid, Hold}
+use Rattle.run.specs.Levels.{frameOf, levelOf, copiesRoom, framesIn, levelsIn, withLocal, withCell, Laid, Hold}
 use Rattle.run.proofs.Tabled.{length-tabulated, tabulated-at, tabulated-same, tabulated-set}
 
 -- a row as wide as a level and its address

@@ -8,7 +8,7 @@ use lib.Dec.{eqb}
 use lib.ListN.{length, getD}
 use Rattle.plain.specs.Choice.{pick, both}
 use Rattle.machine.specs.State.{Whole}
-use Rattle.machine.specs.Tasks.{Task, taskOf, paired, noMachine, taskAt, ready, isReady, Whose, ofTask, nobodys, firstReady, taskGood, allGood, AllWhole}
+use Rattle.machine.specs.Tasks.{Task, taskOf, paired, noMachine, ready, isReady, Whose, ofTask, firstReady, taskGood, allGood, AllWhole}
 use Rattle.machine.specs.Laws.Pairs.{paired-at}
 use Rattle.machine.specs.declared.Machine.{Machine}
 use Rattle.order.specs.Order.{firstKept}

@@ -9,7 +9,7 @@ use Rattle.links.specs.Depths.{framesCount, levelsCount, localsCount, levelCell
 use Rattle.links.specs.Linked.{noFrame, noLevel}
 use Rattle.links.specs.declared.Frame.{Frame}
 use Rattle.links.specs.declared.Level.{Level}
-use Rattle.run.specs.Rows.{framesIn, levelsIn, Laid, Hold}
+use Rattle.run.specs.Levels.{framesIn, levelsIn, Laid, Hold}
 use Rattle.run.proofs.Levels.{frame-there, level-there, wide-at, frame-put, level-put}
 
 -- a store into an element that was stored just now

@@ -8,7 +8,7 @@ use native.Mathlib.Omega.{arith}
 use borrow.Author.Tests.{eq-eqb, ne-eqb}
 use lib.ListN.{length}
 use Rattle.plain.specs.Answer.{Answer, refuses, gives}
-use Rattle.plain.specs.Choice.{pick, both}
+use Rattle.plain.specs.Choice.{both}
 use Rattle.numbers.specs.Bytes.{byteAt}
 use Rattle.links.specs.Depths.{cellsDepth, returnsDepth, subroutinesDepth, exceptionsDepth, mostCopyOfP}
 use Rattle.links.specs.Linked.{copyOfS, copyOfP}

@@ -21,7 +21,7 @@ use Rattle.run.specs.Machines.{ranOf}
 use Rattle.run.specs.Promises.{Bounded}
 use Rattle.run.specs.Registers.{machineIn}
 use Rattle.run.specs.Rounds.{Starts, Ends}
-use Rattle.run.specs.Rows.{framesIn, levelsIn, pointersIn, inRows, taskIn, machinesIn, Seats}
+use Rattle.run.specs.Levels.{framesIn, levelsIn, pointersIn, inRows, taskIn, machinesIn, Seats}
 use Rattle.run.specs.declared.Clock.{Clock}
 use Rattle.run.specs.declared.Pointers.{Pointers}
 use Rattle.run.specs.declared.Registers.{Registers}

@@ -1,12 +1,12 @@
 -- A list made of its elements by their places.
 use mathlib.Core.Logic.{_≢_}
 use mathlib.Core.Path.{_≡_, refl, ap, _∙_}
-use mathlib.Core.List.{List, [], _∷_}
+use mathlib.Core.List.{List, _∷_}
 use Prim.Native.Nat.{ℕ, zero, suc, _<_}
 use native.Mathlib.Nat.{le-of-suc-le-suc, not-suc-le-zero}
 use native.Mathlib.Omega.{arith}
 use lib.ListN.{getD, set, length}
-use Rattle.run.specs.Rows.{tabulated}
+use Rattle.run.specs.Levels.{tabulated}
 
 module _ {A : Type 0} where
   pub length-tabulated : (n : ℕ) (at : ℕ → A) → length (tabulated n at) ≡ n

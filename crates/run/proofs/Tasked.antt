@@ -10,7 +10,7 @@ use lib.Seq.{getD-set-same, getD-set-other}
 use Rattle.machine.specs.Limits.{tasksCount}
 use Rattle.machine.specs.Tasks.{noMachine}
 use Rattle.machine.specs.declared.Machine.{Machine}
-use Rattle.run.specs.Rows.{pointersOf, noPointers, inRows, taskIn, machinesIn, Laid, Hold, AllLaid, Seats}
+use Rattle.run.specs.Levels.{pointersOf, noPointers, inRows, taskIn, machinesIn, Laid, Hold, AllLaid, Seats}
 use Rattle.run.specs.declared.Pointers.{Pointers}
 use Rattle.run.proofs.Again.{whole-again}
 use Rattle.run.proofs.Filled.{Filled, filled-none, filled-next, filled-all}

@@ -1,6 +1,6 @@
 -- The loop of turns: what holds between two of them.
-use mathlib.Core.Path.{_≡_, refl, ap, sym, _∙_, subst, subst⁻¹}
-use mathlib.Core.Bool.{Bool, true, false}
+use mathlib.Core.Path.{_≡_, ap, sym, _∙_, subst, subst⁻¹}
+use mathlib.Core.Bool.{true}
 use mathlib.Core.List.{List}
 use Prim.Native.Nat.{ℕ, _+_, _-_, _*_, _%_, _≤_, _<_}
 use native.Mathlib.Omega.{arith}
@@ -11,8 +11,8 @@ use Rattle.plain.specs.All.{All}
 use Rattle.plain.specs.Laws.All.{all-at, all-set}
 use Rattle.machine.specs.Limits.{memoryLength, mostBudget, mostQuantum, tasksCount}
 use Rattle.machine.specs.Reach.{task}
-use Rattle.machine.specs.Run.{After, afterOf, runFrom, acceptable, CyclesBounded}
-use Rattle.machine.specs.Tasks.{Task, taskOf, paired, noMachine, noTask, taskAt, ready, isReady, leftBy, nobodys, ofTask, inOrder, nextReady, Between, turnLength, turnOf, afterTurn, TasksAfter, endedAt, TurnsFrom, spent, idle, turn, startOf, canKeep, AllWhole, tasksAcceptable}
+use Rattle.machine.specs.Run.{After, afterOf, runFrom, acceptable}
+use Rattle.machine.specs.Tasks.{Task, taskOf, paired, noMachine, noTask, taskAt, ready, isReady, nobodys, ofTask, inOrder, nextReady, Between, turnLength, turnOf, afterTurn, TasksAfter, endedAt, TurnsFrom, spent, idle, turn, startOf, canKeep, AllWhole, tasksAcceptable}
 use Rattle.machine.specs.Laws.Accepted.{accept}
 use Rattle.machine.specs.Laws.Kept.{Good}
 use Rattle.machine.specs.Laws.TasksTaken.{taken}

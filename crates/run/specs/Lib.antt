@@ -9,7 +9,7 @@ pub mod Operations
 -- what the registers become
 pub mod Registers
 -- a machine with a row of numbers for each level
-pub mod Rows
+pub mod Levels
 -- what a run of tasks counts
 pub mod Clocks
 -- what the functions on the parameter cells and the fetch promise

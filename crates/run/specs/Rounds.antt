@@ -10,7 +10,7 @@ use Rattle.machine.specs.declared.Machine.{Machine}
 use Rattle.machine.specs.declared.Reach.{Reach}
 use Rattle.run.specs.Promises.{Bounded}
 use Rattle.run.specs.Registers.{machineIn}
-use Rattle.run.specs.Rows.{framesIn, levelsIn, Laid}
+use Rattle.run.specs.Levels.{framesIn, levelsIn, Laid}
 use Rattle.run.specs.declared.Registers.{Registers}
 
 -- a machine that a run takes, in arrays of their lengths, and the prices

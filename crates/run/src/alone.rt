@@ -19,7 +19,7 @@ ghost use Rattle.machine.specs.Run.{acceptable, runFrom, afterOf};
 ghost use Rattle.machine.specs.Run as run;
 ghost use Rattle.run.specs.Machines.{ranOf};
 ghost use Rattle.run.specs.Registers.{machineIn};
-ghost use Rattle.run.specs.Rows.{framesIn, levelsIn, Laid};
+ghost use Rattle.run.specs.Levels.{framesIn, levelsIn, Laid};
 ghost use Rattle.machine.specs.State.{freshWith};
 
 // A machine that is alone may touch all of memory.

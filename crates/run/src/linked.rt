@@ -6,12 +6,12 @@ use links::Level;
 use links::Links;
 ghost use mathlib.Core.List.{List};
 ghost use mathlib.Core.Path.{_≡_};
-ghost use Prim.Native.Nat.{ℕ, _+_, _<_, _≤_};
+ghost use Prim.Native.Nat.{ℕ, _+_, _<_};
 ghost use lib.ListN.{getD, set};
 ghost use Rattle.links.specs.Actions.{calledFrame};
 ghost use Rattle.links.specs.Depths.{framesCount, levelsCount, localsCount, levelCells, subroutinesDepth, exceptionsDepth};
 ghost use Rattle.links.specs.Linked.{noFrame, noLevel, copyOfR, copyOfS, copyOfP};
-ghost use Rattle.run.specs.Rows.{framesIn, levelsIn, withLocal, withCell, Laid, Hold};
+ghost use Rattle.run.specs.Levels.{framesIn, levelsIn, withLocal, withCell, Laid, Hold};
 
 // The rows of the subroutine levels, then those of the exception levels.
 pub(crate) const ROWS: usize = Links::FRAMES + Links::LEVELS;

@@ -12,7 +12,7 @@ ghost use Prim.Native.Nat.{_<_, _≤_};
 ghost use lib.ListN.{getD, set, length, take, drop};
 ghost use Rattle.links.specs.Depths.{framesCount, levelsCount};
 ghost use Rattle.links.specs.Linked.{noFrame, noLevel};
-ghost use Rattle.run.specs.Rows.{framesIn, levelsIn, inRows, pointersOf, pointersIn, Laid, Hold};
+ghost use Rattle.run.specs.Levels.{framesIn, levelsIn, inRows, pointersOf, pointersIn, Laid, Hold};
 
 // So many numbers from the front of one list to the front of another.
 fn copy_front(from: &[u32], to: &mut [u32], count: usize)

@@ -22,7 +22,7 @@ use machine::Reach;
 use machine::Steps;
 use reach::Reached;
 use reach::Spot;
-ghost use Rattle.run.specs.Rows.{inRows};
+ghost use Rattle.run.specs.Levels.{inRows};
 ghost use Rattle.run.specs.Rounds.{Starts, Ends};
 
 // Each round is one step: the instruction is fetched and its checks are made, and what refuses it ends the run; then the lent

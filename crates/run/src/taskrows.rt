@@ -7,7 +7,7 @@ use machine::Tasks;
 ghost use mathlib.Core.Path.{_≡_};
 ghost use lib.ListN.{length};
 ghost use Rattle.machine.specs.Limits.{tasksCount};
-ghost use Rattle.run.specs.Rows.{machinesIn, AllLaid, Seats};
+ghost use Rattle.run.specs.Levels.{machinesIn, AllLaid, Seats};
 
 pub(crate) fn apart(
     machines: [Machine; Tasks::COUNT],

@@ -5,7 +5,7 @@ use mathlib.Core.List.{List, [], _∷_}
 use Prim.Native.Nat.{ℕ, zero, suc, _+_, _≤_, _<_}
 use native.Mathlib.Nat.{le-refl}
 use native.Mathlib.Omega.{arith}
-use borrow.Author.Tests.{ltb-true, eqb-true, eqb-false}
+use borrow.Author.Tests.{ltb-true, eqb-true}
 use lib.Dec.{T, ltb, eqb}
 use lib.ListN.{length, set}
 use Rattle.plain.specs.Choice.{pick}

@@ -1,11 +1,10 @@
 -- The next ready task in circular order.
-use mathlib.Core.Path.{_≡_, refl, ap, _∙_, subst}
+use mathlib.Core.Path.{_≡_, refl, ap, _∙_}
 use mathlib.Core.Bool.{Bool, true, false}
-use mathlib.Core.List.{List, [], _∷_}
+use mathlib.Core.List.{List}
 use Prim.Native.Nat.{ℕ, zero, suc, _+_, _%_, _<_}
 use native.Mathlib.Omega.{arith}
 use Rattle.plain.specs.Choice.{pick}
-use Rattle.plain.specs.All.{All}
 use Rattle.machine.specs.Limits.{tasksCount}
 use Rattle.machine.specs.Tasks.{Task, taskAt, isReady, nobodys, ofTask, firstReady, following, inOrder, nextReady}
 use Rattle.machine.specs.Laws.Clash.{never}

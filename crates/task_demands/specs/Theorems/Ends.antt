@@ -1,24 +1,19 @@
 -- Every run of tasks ends: each turn takes a step from the budget, or leaves one task fewer ready.
-use mathlib.Core.Path.{_≡_, refl, sym, ap, _∙_}
+use mathlib.Core.Path.{_≡_, refl, _∙_}
 use mathlib.Core.Bool.{Bool, true, false}
-use mathlib.Core.List.{List, [], _∷_}
-use Prim.Native.Nat.{ℕ, zero, suc, _+_, _≤_, _<_}
+use mathlib.Core.List.{List}
+use Prim.Native.Nat.{ℕ, zero, suc, _≤_, _<_}
 use native.Mathlib.Omega.{arith}
 use borrow.Author.Tests.{eqb-true, eqb-false}
-use lib.Dec.{ltb, eqb}
-use lib.ListN.{length, set}
+use lib.Dec.{eqb}
+use lib.ListN.{length}
 use Rattle.plain.specs.Answer.{notAsAsked}
-use Rattle.plain.specs.Choice.{pick}
 use Rattle.machine.specs.Laws.Circular.{next-ready}
 use Rattle.machine.specs.Limits.{tasksCount}
 use Rattle.machine.specs.Reach.{task}
-use Rattle.machine.specs.Run.{After, ended, passes, runFrom}
-use Rattle.machine.specs.Step.{Stepped, refused, done, stepOf}
-use Rattle.machine.specs.Tasks.{Task, taskAt, ready, isReady, Whose, nobodys, ofTask, nextReady, Between, TasksAfter, endedAt, startOf, turnLength, turnOf, afterTurn, TurnsFrom, spent, idle, turn, tasksAcceptable, declined, ran}
+use Rattle.machine.specs.Tasks.{Task, taskAt, Whose, nobodys, ofTask, nextReady, Between, TasksAfter, endedAt, startOf, turnLength, turnOf, afterTurn, TurnsFrom, spent, idle, turn, tasksAcceptable, declined, ran}
 use Rattle.machine.specs.Laws.After.{as-many}
 use Rattle.machine.specs.Laws.Turns.{turn-within, turn-steps, turn-length, turn-moves, toGo, less-to-go}
-use Rattle.machine.specs.declared.Machine.{Machine}
-use Rattle.machine.specs.declared.Reach.{Reach}
 use Rattle.task_demands.specs.Ends.{Ends}
 use Rattle.machine.specs.Laws.TasksTaken.{taken}
 

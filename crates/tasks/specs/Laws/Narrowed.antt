@@ -1,10 +1,10 @@
 -- A quantum or a budget that 32 bits do not hold is refused as every one above its limit is.
 use mathlib.Core.Bool.{Bool, true, false}
 use mathlib.Core.List.{List}
-use mathlib.Core.Path.{_≡_, refl, ap, sym, subst, _∙_}
+use mathlib.Core.Path.{_≡_, refl, ap, subst, _∙_}
 use Prim.Native.Nat.{ℕ, suc, _≤_}
 use native.Mathlib.Omega.{arith}
-use borrow.Author.Tests.{le-ltb, ltb-false}
+use borrow.Author.Tests.{le-ltb}
 use lib.Dec.{ltb}
 use Rattle.plain.specs.Choice.{pick}
 use Rattle.machine.specs.Limits.{mostBudget, mostQuantum}

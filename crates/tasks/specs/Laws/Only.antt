@@ -2,7 +2,7 @@
 use mathlib.Core.List.{List}
 use mathlib.Core.Path.{_≡_, refl, sym, ap, subst, _∙_}
 use Prim.Native.Nat.{ℕ}
-use Rattle.machine.specs.Tasks.{Task, TasksAfter, RunsTasks}
+use Rattle.machine.specs.Tasks.{Task, RunsTasks}
 use Rattle.machine.specs.Laws.OnlyTasks.{only-run}
 use Rattle.state.specs.Laws.Spelling.{tasks-sound}
 use Rattle.state.specs.Lent.{Lent}

@@ -1,7 +1,5 @@
--- Made by .ci/named from barred.rules: ede3273b14b80fc0 9575ff73a8183392
+-- Made by .ci/named from barred.rules: 338d24a1df4359cc a76689afde493bfa
 -- By the first address past the reach.
-use Prim.Native.Nat.{_+_}
-use Rattle.machine.specs.Reach.{barOf}
 use Rattle.reach.proofs.Beyond.{no-bytes, barred-far, barred-near, barred-past, barred-not}
 use borrow.Author.Needs.{needs}
 use Rattle.reach.proofs.bounds.barred.Statement.{statement}

@@ -1,6 +1,6 @@
--- Made by .ci/named from in_memory.rules: 019be7a0244da139 334f2387ecacde62
+-- Made by .ci/named from in_memory.rules: 373e99ffcdf9d94d 4593aed4a4deb38d
 -- Outside memory, in the own part, in another's part, or in reach.
-use mathlib.Core.Path.{sym, ap, _∙_}
+use mathlib.Core.Path.{sym, _∙_}
 use native.Mathlib.Omega.{arith}
 use Rattle.reach.specs.Spots.{widthOf}
 use Rattle.reach.proofs.Spots.{outside-memory, others, allowed-here, own-told, own-allowed}

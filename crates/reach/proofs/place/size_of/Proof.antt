@@ -1,6 +1,5 @@
--- Made by .ci/named from size_of.rules: ab35d8de0438394e 79fae534e7f966bb
+-- Made by .ci/named from size_of.rules: 96d6adce6d6c28c5 df2a967ade357030
 -- By the code.
-use mathlib.Core.Path.{_≡_}
 use native.Mathlib.Omega.{arith}
 use Rattle.reach.proofs.Widths.{below-all, long-codes, word-codes, above-all}
 use borrow.Author.Needs.{needs}

@@ -1,6 +1,6 @@
--- Made by .ci/named from any.rules: 3f97286a7ba65e5b 20b974fad96165a4
+-- Made by .ci/named from any.rules: 919b2c3ffdcd4f07 470879b2295225ee
 -- The machine's levels go to rows, the loop runs, and the rows become the machine handed back.
-use mathlib.Core.Path.{_≡_, refl, ap, sym, _∙_, subst⁻¹}
+use mathlib.Core.Path.{_≡_, refl, ap, _∙_, subst⁻¹}
 use mathlib.Core.Bool.{true, false}
 use native.Mathlib.Omega.{arith}
 use Rattle.machine.specs.Codes.{table, cycleTable}

@@ -1,4 +1,4 @@
--- Made by .ci/named from finished.rules: 28e87f9c32bfc1d2 8d2f61ccfed32b5b
+-- Made by .ci/named from finished.rules: 3513a96f10ba729b b57b2cf2d352a8da
 -- What is handed back is made of the arrays and the registers.
 use mathlib.Core.Path.{ap, _∙_}
 use native.Mathlib.Omega.{arith}
@@ -6,7 +6,7 @@ use Prim.Native.Nat.{_-_}
 use Rattle.machine.specs.Run.{afterOf}
 use Rattle.machine.specs.declared.Machine.{Machine}
 use Rattle.run.specs.Machines.{ranOf}
-use Rattle.run.specs.Rows.{inRows}
+use Rattle.run.specs.Levels.{inRows}
 use borrow.Author.Needs.{needs}
 use Rattle.run.proofs.alone.finished.Statement.{statement}
 use Rattle.run.proofs.alone.finished.Tie as tie

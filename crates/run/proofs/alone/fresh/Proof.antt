@@ -1,6 +1,6 @@
--- Made by .ci/named from fresh.rules: eaabdebdd8790341 9734b723eb350d48
+-- Made by .ci/named from fresh.rules: 23929391ba995cfe 18e8937acb068543
 -- Rows of zeros are fresh levels.
-use mathlib.Core.Path.{_≡_, refl, ap, sym, _∙_, subst⁻¹}
+use mathlib.Core.Path.{_≡_, refl, ap, _∙_, subst⁻¹}
 use mathlib.Core.Bool.{true, false}
 use native.Mathlib.Omega.{arith}
 use Rattle.links.specs.Fresh.{freshLinks}

@@ -1,7 +1,6 @@
--- Made by .ci/named from foreign.rules: 20e5f63d5701339d 8e8ab7f260594988
+-- Made by .ci/named from foreign.rules: 255b48b9f47e7637 9b570b955f806eb5
 -- Room for five shared bytes is enough; else what bars the instruction decides.
 use mathlib.Core.Path.{ap, _∙_}
-use native.Mathlib.Omega.{arith}
 use Rattle.machine.specs.Reach.{isForeign}
 use Rattle.run.proofs.Fetching.{all-shared}
 use borrow.Author.Needs.{needs}

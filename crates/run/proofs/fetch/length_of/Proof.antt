@@ -1,8 +1,7 @@
--- Made by .ci/named from length_of.rules: 2d5e311cd665da30 55f960f6dc60e91b
+-- Made by .ci/named from length_of.rules: 9ddd0984138f6ffd e1f2311b3a861d07
 -- The code's entry says how many bytes follow.
-use mathlib.Core.Path.{sym, ap}
 use native.Mathlib.Omega.{arith}
-use Rattle.machine.specs.Codes.{bytesWith, entryAt, table}
+use Rattle.machine.specs.Codes.{entryAt, table}
 use Rattle.run.proofs.Fetching.{branch-follows}
 use Rattle.run.proofs.OneByte.{nothing-follows}
 use borrow.Author.Needs.{needs}

@@ -1,6 +1,5 @@
--- Made by .ci/named from can_keep.rules: e129e90b30ccaa6a 51d339139bdb55fe
+-- Made by .ci/named from can_keep.rules: 4759d330a5f43a48 7eb96631f4dc2cbd
 -- The tests are the definition's own.
-use borrow.Author.Tests.{le-leb, lt-leb, eq-eqb, ne-eqb}
 use Rattle.run.proofs.Rules.{tests}
 use borrow.Author.Needs.{needs}
 use Rattle.run.proofs.formed.can_keep.Statement.{statement}

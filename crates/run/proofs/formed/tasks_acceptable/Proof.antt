@@ -1,7 +1,6 @@
--- Made by .ci/named from tasks_acceptable.rules: 4044b698d8c26e31 a61409a4398a6ead
+-- Made by .ci/named from tasks_acceptable.rules: 8bb5666156b200a0 e477a768f1287a01
 -- Clause by clause, in order.
-use mathlib.Core.Bool.{true, false}
-use mathlib.Core.Path.{_≡_, refl, sym, _∙_}
+use mathlib.Core.Path.{refl, sym, _∙_}
 use native.Mathlib.Omega.{arith}
 use Rattle.run.proofs.Entry.{quantum-good, quantum-none, quantum-long, tasks-wrong-length, tasks-wrong-budget, tasks-wrong-quantum, tasks-judged, clash}
 use Rattle.run.proofs.Filled.{length-mapped}

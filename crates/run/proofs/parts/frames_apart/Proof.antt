@@ -1,11 +1,11 @@
--- Made by .ci/named from frames_apart.rules: c54b3466cf55e7be 9b6d6ac9abed8cf8
+-- Made by .ci/named from frames_apart.rules: b8bad7c46882e411 ff7a2c32dc737a6f
 -- Before pass n the first n levels are written, and the other stack's levels are as they were.
 use mathlib.Core.Path.{_≡_, refl, _∙_}
 use Prim.Native.Nat.{_-_}
 use native.Mathlib.Omega.{arith}
 use Rattle.links.specs.Depths.{framesCount}
 use Rattle.links.specs.Linked.{noFrame}
-use Rattle.run.specs.Rows.{framesIn, levelsIn, Laid}
+use Rattle.run.specs.Levels.{framesIn, levelsIn, Laid}
 use Rattle.run.proofs.Filled.{length-mapped, Filled, filled-none, filled-next, filled-all}
 use Rattle.run.proofs.Levels.{frames-long}
 use borrow.Author.Needs.{needs}

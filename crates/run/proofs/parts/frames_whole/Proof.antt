@@ -1,11 +1,11 @@
--- Made by .ci/named from frames_whole.rules: b6b3470b42e96819 f2911b7b1122eb4d
+-- Made by .ci/named from frames_whole.rules: b494f86694737d23 8425beb7df233c43
 -- Before pass n the first n levels are read.
 use mathlib.Core.Path.{refl}
 use Prim.Native.Nat.{_-_}
 use native.Mathlib.Omega.{arith}
 use Rattle.links.specs.Depths.{framesCount}
 use Rattle.links.specs.Linked.{noFrame}
-use Rattle.run.specs.Rows.{framesIn}
+use Rattle.run.specs.Levels.{framesIn}
 use Rattle.run.proofs.Filled.{Filled, filled-none, filled-next, filled-all}
 use Rattle.run.proofs.Levels.{frames-long}
 use borrow.Author.Needs.{needs}

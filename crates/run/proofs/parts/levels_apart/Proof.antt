@@ -1,11 +1,11 @@
--- Made by .ci/named from levels_apart.rules: 63464822da6c1d8b b922eb64c006a7fc
+-- Made by .ci/named from levels_apart.rules: a1495d6eeb839bfc b12273f2c2586a17
 -- Before pass n the first n levels are written, and the other stack's levels are as they were.
 use mathlib.Core.Path.{_≡_, refl, _∙_}
 use Prim.Native.Nat.{_-_}
 use native.Mathlib.Omega.{arith}
 use Rattle.links.specs.Depths.{levelsCount}
 use Rattle.links.specs.Linked.{noLevel}
-use Rattle.run.specs.Rows.{levelsIn, framesIn, Laid}
+use Rattle.run.specs.Levels.{levelsIn, framesIn, Laid}
 use Rattle.run.proofs.Filled.{length-mapped, Filled, filled-none, filled-next, filled-all}
 use Rattle.run.proofs.Levels.{levels-long}
 use borrow.Author.Needs.{needs}

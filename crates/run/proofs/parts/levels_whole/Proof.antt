@@ -1,11 +1,11 @@
--- Made by .ci/named from levels_whole.rules: a299cf3cd53e0e68 91038e02e70ce1a1
+-- Made by .ci/named from levels_whole.rules: 27072cba6a4469db bb1b8f6d2ec440e0
 -- Before pass n the first n levels are read.
 use mathlib.Core.Path.{refl}
 use Prim.Native.Nat.{_-_}
 use native.Mathlib.Omega.{arith}
 use Rattle.links.specs.Depths.{levelsCount}
 use Rattle.links.specs.Linked.{noLevel}
-use Rattle.run.specs.Rows.{levelsIn}
+use Rattle.run.specs.Levels.{levelsIn}
 use Rattle.run.proofs.Filled.{Filled, filled-none, filled-next, filled-all}
 use Rattle.run.proofs.Levels.{levels-long}
 use borrow.Author.Needs.{needs}

@@ -1,8 +1,7 @@
--- Made by .ci/named from rounds.rules: 51123e1acf2cf599 748a504e555f174f
+-- Made by .ci/named from rounds.rules: fdd4ce5e853ecba4 5bf4ddbb1eea00d9
 -- The loop is the definition's run: each round is one step of `stepOf`, and what ends it is the definition's own.
 use mathlib.Core.Path.{_≡_, refl, ap, sym, _∙_}
 use mathlib.Core.Bool.{false}
-use mathlib.Core.Logic.{inl, inr}
 use Prim.Native.Nat.{ℕ, _-_, _<_}
 use native.Mathlib.Omega.{arith}
 use Rattle.plain.specs.Answer.{refuses}
@@ -13,7 +12,7 @@ use Rattle.reach.specs.Spots.{widthOf}
 use Rattle.reach.specs.Spots.{saysReached}
 use Rattle.run.specs.Answers.{saysFetched, saysChecked, saysExit, saysThrown, saysDone}
 use Rattle.run.specs.Registers.{machineIn, haltedBy}
-use Rattle.run.specs.Rows.{framesIn, levelsIn, inRows, Laid}
+use Rattle.run.specs.Levels.{framesIn, levelsIn, inRows, Laid}
 use Rattle.run.specs.Verdicts.{sAfterPop, eAfterDropOf, eAfterPop}
 use Rattle.reach.specs.declared.Reached.the-variants as reached
 use Rattle.run.specs.declared.Thrown.the-variants as thrown

@@ -1,8 +1,7 @@
--- Made by .ci/named from paused.rules: d11dd7f460002d3f 2a89ba28cb8e176a
+-- Made by .ci/named from paused.rules: 6ab5a90815bdd85b 187130f54c574f61
 -- Halted with 1, or as it was.
-use mathlib.Core.Path.{ap, _∙_}
+use mathlib.Core.Path.{ap}
 use native.Mathlib.Omega.{arith}
-use Rattle.run.specs.Registers.{pausedAt}
 use Rattle.run.specs.declared.Registers.{Registers}
 use borrow.Author.Needs.{needs}
 use Rattle.run.proofs.tally.paused.Statement.{statement}

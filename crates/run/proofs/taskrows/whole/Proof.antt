@@ -1,11 +1,11 @@
--- Made by .ci/named from whole.rules: 277f5ddde8debd00 6912a64ab218e7b7
+-- Made by .ci/named from whole.rules: 844b6dbeaf0a1037 ab4d1cc7f7b660a8
 -- Before pass t the first t machines are read.
 use mathlib.Core.Path.{refl, sym, _∙_}
 use Prim.Native.Nat.{_-_}
 use native.Mathlib.Omega.{arith}
 use Rattle.machine.specs.Limits.{tasksCount}
 use Rattle.machine.specs.Tasks.{noMachine}
-use Rattle.run.specs.Rows.{machinesIn}
+use Rattle.run.specs.Levels.{machinesIn}
 use Rattle.run.proofs.Filled.{Filled, filled-none, filled-next, filled-all}
 use Rattle.run.proofs.Tasked.{machines-long, machine-there}
 use borrow.Author.Needs.{needs}

@@ -1,10 +1,9 @@
--- Made by .ci/named from turned.rules: eae69191bb0d7db2 fd46eb4af688ae36
+-- Made by .ci/named from turned.rules: 8f5ca47cb5811b63 ec73165d9dcd0a0c
 -- The task after this one, and what is left.
 use native.Mathlib.Omega.{arith}
 use mathlib.Core.Path.{_≡_}
 use Prim.Native.Nat.{_%_}
 use Rattle.machine.specs.Limits.{tasksCount}
-use Rattle.machine.specs.Tasks.{following}
 use borrow.Author.Needs.{needs}
 use Rattle.run.proofs.ticks.turned.Statement.{statement}
 use Rattle.run.proofs.ticks.turned.Tie as tie

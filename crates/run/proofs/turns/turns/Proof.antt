@@ -1,4 +1,4 @@
--- Made by .ci/named from turns.rules: 6d0c9d5b63292595 1403cffae30d4525
+-- Made by .ci/named from turns.rules: 6bac680c2e8e1c63 e817bb76ea1ef614
 -- The loop is the definition's run of turns.
 use mathlib.Core.Path.{_≡_, refl, ap, sym, _∙_}
 use mathlib.Core.List.{List}
@@ -10,7 +10,7 @@ use Rattle.machine.specs.declared.Machine.{Machine}
 use Rattle.machine.specs.Laws.Turns.{toGo}
 use Rattle.order.specs.Order.{saysNext}
 use Rattle.run.specs.Clocks.{between, ranTasksOf}
-use Rattle.run.specs.Rows.{machinesIn}
+use Rattle.run.specs.Levels.{machinesIn}
 use Rattle.run.proofs.Again.{all-zeros-laid}
 use Rattle.run.proofs.Filled.{length-mapped}
 use Rattle.run.proofs.Seated.{Seated, seated-first, seated-idle, idle-less, seat-within, seat-ready, seat-starts, seat-steps, seat-cycles, seated-on, seated-less, from-first-to-last}
