@@ -1,7 +1,8 @@
--- Made by .ci/named from rounds.rules: fdd4ce5e853ecba4 5bf4ddbb1eea00d9
+-- Made by .ci/named from rounds.rules: 89f529989bb8020e 2766ffbd502b408a
 -- The loop is the definition's run: each round is one step of `stepOf`, and what ends it is the definition's own.
 use mathlib.Core.Path.{_≡_, refl, ap, sym, _∙_}
 use mathlib.Core.Bool.{false}
+use mathlib.Core.Logic.{inl, inr}
 use Prim.Native.Nat.{ℕ, _-_, _<_}
 use native.Mathlib.Omega.{arith}
 use Rattle.plain.specs.Answer.{refuses}
