@@ -51,6 +51,7 @@ fn in_memory(reach: Reach, code: u8, address: u32) -> Reached
     if Machine::MEMORY < end {
         return Reached::Refused(12);
     }
+    // before another's part: most accesses past the shared bytes are to the own ones
     if in_own(reach, at, end) {
         return Reached::At(Spot::Own(at));
     }

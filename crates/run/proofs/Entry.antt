@@ -7,7 +7,7 @@ use native.Mathlib.Omega.{arith}
 use borrow.Author.Tests.{eq-eqb, ne-eqb, le-leb, lt-leb}
 use lib.Dec.{leb}
 use lib.ListN.{length}
-use Rattle.plain.specs.Choice.{pick, both}
+use Rattle.plain.specs.Choice.{both}
 use Rattle.links.specs.Depths.{cellsDepth}
 use Rattle.links.specs.Fresh.{freshLinks}
 use Rattle.links.specs.Linked.{linked}
@@ -58,10 +58,6 @@ module _ (cells : List ℕ) (p : ℕ) where
   pub fresh-too-deep : cellsDepth < p → false ≡ wellFormed (freshWith cells p)
   unfolding wellFormed
   fresh-too-deep h = rw (lt-leb p cellsDepth h)
-
--- no test both fails and holds
-pub clash : {A : Type 0} → false ≡ true → A
-clash e = let z : _≡_ {A = ℕ} 0 1 = ap (λ (b : Bool). pick b 1 0) e in absurd (omega arith)
 
 -- a quantum is tested at both ends
 module _ (quantum : ℕ) where

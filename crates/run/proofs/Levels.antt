@@ -50,23 +50,23 @@ module _ (rows : List (List ℕ)) (copies : List ℕ) where
         levelOf rows′ copies′ i ≡ levelOf rows copies i
     level-alike i er es ep = rw (er, es, ep)
 
-    pub frames-same : ((i : ℕ) → i < framesCount → Alike rows′ rows [] i) → ((i : ℕ) → i < framesCount → Alike copies′ copies 0 i) → framesIn rows′ copies′ ≡ framesIn rows copies
+    frames-same : ((i : ℕ) → i < framesCount → Alike rows′ rows [] i) → ((i : ℕ) → i < framesCount → Alike copies′ copies 0 i) → framesIn rows′ copies′ ≡ framesIn rows copies
     unfolding framesIn
     frames-same er ec = tabulated-same framesCount (frameOf rows copies) (frameOf rows′ copies′) (λ i h. frame-alike i (er i h) (ec i h))
 
-    pub levels-same : ((i : ℕ) → i < levelsCount → Alike rows′ rows [] (framesCount + i)) → ((i : ℕ) → i < levelsCount → Alike copies′ copies 0 (framesCount + i)) →
+    levels-same : ((i : ℕ) → i < levelsCount → Alike rows′ rows [] (framesCount + i)) → ((i : ℕ) → i < levelsCount → Alike copies′ copies 0 (framesCount + i)) →
         ((i : ℕ) → i < levelsCount → Alike copies′ copies 0 (framesCount + levelsCount + i)) → levelsIn rows′ copies′ ≡ levelsIn rows copies
     unfolding levelsIn
     levels-same er es ep = tabulated-same levelsCount (levelOf rows copies) (levelOf rows′ copies′) (λ i h. level-alike i (er i h) (es i h) (ep i h))
 
-    pub frame-anew : (s : ℕ) (x : Frame) → s < framesCount → frameOf rows′ copies′ s ≡ x →
+    frame-anew : (s : ℕ) (x : Frame) → s < framesCount → frameOf rows′ copies′ s ≡ x →
         ((i : ℕ) → i < framesCount → i ≢ s → Alike rows′ rows [] i) → ((i : ℕ) → i < framesCount → i ≢ s → Alike copies′ copies 0 i) →
         framesIn rows′ copies′ ≡ set (framesIn rows copies) s x
     unfolding framesIn
     frame-anew s x h here er ec =
         tabulated-set framesCount (frameOf rows copies) (frameOf rows′ copies′) s x h here (λ i less ne. frame-alike i (er i less ne) (ec i less ne))
 
-    pub level-anew : (e : ℕ) (x : Level) → e < levelsCount → levelOf rows′ copies′ e ≡ x →
+    level-anew : (e : ℕ) (x : Level) → e < levelsCount → levelOf rows′ copies′ e ≡ x →
         ((i : ℕ) → i < levelsCount → i ≢ e → Alike rows′ rows [] (framesCount + i)) → ((i : ℕ) → i < levelsCount → i ≢ e → Alike copies′ copies 0 (framesCount + i)) →
         ((i : ℕ) → i < levelsCount → i ≢ e → Alike copies′ copies 0 (framesCount + levelsCount + i)) → levelsIn rows′ copies′ ≡ set (levelsIn rows copies) e x
     unfolding levelsIn

@@ -80,10 +80,11 @@ inRows cells returns rows copies at =
       flag = at .flag;
     }
 
--- four machines, each in its own place of such arrays
+-- what a read past an array's end gives: every number zero
 abbrev pub noPointers : Pointers
 noPointers = record { p = 0; r = 0; s = 0; e = 0; counter = 0; flag = 0 }
 
+-- four machines, each in its own place of such arrays
 abbrev pub taskIn : List (List ℕ) → List (List ℕ) → List (List (List ℕ)) → List (List ℕ) → List Pointers → ℕ → Machine
 taskIn cells returns rows copies saved t =
     inRows (getD cells t []) (getD returns t []) (getD rows t []) (getD copies t []) (getD saved t noPointers)
@@ -94,7 +95,7 @@ machinesIn cells returns rows copies saved = tabulated tasksCount (taskIn cells 
 abbrev pub AllLaid : List (List (List ℕ)) → List (List ℕ) → Type 0
 AllLaid rows copies = (t : ℕ) → t < tasksCount → Laid (getD rows t []) (getD copies t [])
 
--- arrays of four
+-- the arrays of four machines are as long as they should be
 pub record Seats (cells returns : List (List ℕ)) (rows : List (List (List ℕ))) (copies : List (List ℕ)) (saved : List Pointers) : Type 0 where
   pub cells-long : length cells ≡ tasksCount
   pub returns-long : length returns ≡ tasksCount

@@ -1,6 +1,6 @@
 // The subroutine and the exception levels as the loop has them: a row of numbers for each level, its cells and its address; and the
 // copies of R, S and P beside them. No array of structs can be lent (docs/DECISIONS.md), and each further array costs a turn four
-// instructions.
+// to six instructions.
 use links::Frame;
 use links::Level;
 use links::Links;
