@@ -23,7 +23,10 @@ enum {
     TEXT_BYTES = 768
 };
 
-enum { EXIT_CODE = 0x3D, PAUSE_CODE = 0x3E, FIRST_LOCAL = 0x10000, FIRST_CATCH_CELL = 0x10040, LISTED_END = 0x10060 };
+enum { EXIT_CODE = 0x3D, PAUSE_CODE = 0x3E };
+
+/* Address and bytes of the cells in view: the locals of level s, then the cells of level e. */
+enum { VIEW = 0x10000, LOCAL_BYTES = 4 * LOCALS, VIEW_BYTES = LOCAL_BYTES + 4 * CATCH_CELLS };
 
 /* The copies are 64 bits wide because a host may leave anything in levels above the pointers. */
 struct frame {
@@ -69,11 +72,58 @@ static uint32_t get32(const uint8_t *b) {
     return (uint32_t)b[0] << 24 | (uint32_t)b[1] << 16 | (uint32_t)b[2] << 8 | b[3];
 }
 
+static void put16(uint8_t *b, uint32_t v) {
+    b[0] = (uint8_t)(v >> 8);
+    b[1] = (uint8_t)v;
+}
+
 static void put32(uint8_t *b, uint32_t v) {
     b[0] = (uint8_t)(v >> 24);
     b[1] = (uint8_t)(v >> 16);
     b[2] = (uint8_t)(v >> 8);
     b[3] = (uint8_t)v;
+}
+
+/* The cell with this byte of those in view. */
+static inline uint32_t *cell_in_view(struct machine *m, uint64_t s, uint64_t e, uint32_t at) {
+    return at < LOCAL_BYTES ? &m->frames[s].locals[at / 4] : &m->levels[e].cells[(at - LOCAL_BYTES) / 4];
+}
+
+/* How far this byte stands above the lowest of its cell. */
+static inline uint32_t shift_in_cell(uint32_t at) { return 24 - 8 * (at % 4); }
+
+static inline uint32_t get8_in_view(struct machine *m, uint64_t s, uint64_t e, uint32_t at) {
+    return *cell_in_view(m, s, e, at) >> shift_in_cell(at) & 0xFF;
+}
+
+static inline void put8_in_view(struct machine *m, uint64_t s, uint64_t e, uint32_t at, uint32_t v) {
+    uint32_t *cell = cell_in_view(m, s, e, at), shift = shift_in_cell(at);
+    *cell = (*cell & ~(0xFFu << shift)) | (v & 0xFF) << shift;
+}
+
+/* Bytes lie in one cell or in two: in the upper half of a pair is the first byte's cell, in the lower half the last one's. */
+static inline uint32_t get_in_view(struct machine *m, uint64_t s, uint64_t e, uint32_t at, uint32_t bytes) {
+    uint64_t pair = (uint64_t)*cell_in_view(m, s, e, at) << 32 | *cell_in_view(m, s, e, at + bytes - 1);
+    return (uint32_t)(pair << 8 * (at % 4) >> (64 - 8 * bytes));
+}
+
+static inline void put_in_view(struct machine *m, uint64_t s, uint64_t e, uint32_t at, uint32_t bytes, uint32_t v) {
+    uint32_t *first = cell_in_view(m, s, e, at), *last = cell_in_view(m, s, e, at + bytes - 1);
+    uint32_t shift = 64 - 8 * (at % 4 + bytes);
+    uint64_t ones = ~(uint64_t)0 >> (64 - 8 * bytes) << shift;
+    uint64_t pair = (((uint64_t)*first << 32 | *last) & ~ones) | ((uint64_t)v << shift & ones);
+    *last = (uint32_t)pair;
+    *first = (uint32_t)(pair >> 32); /* second, since a cell that is both is right in the upper half */
+}
+
+/* Nearly every longword is a whole cell. */
+static inline uint32_t get32_in_view(struct machine *m, uint64_t s, uint64_t e, uint32_t at) {
+    return at % 4 == 0 ? *cell_in_view(m, s, e, at) : get_in_view(m, s, e, at, 4);
+}
+
+static inline void put32_in_view(struct machine *m, uint64_t s, uint64_t e, uint32_t at, uint32_t v) {
+    if (at % 4 == 0) *cell_in_view(m, s, e, at) = v;
+    else put_in_view(m, s, e, at, 4, v);
 }
 
 static int well_formed(const struct machine *m) {

@@ -14,8 +14,8 @@ struct reach {
 #define REFUSE(n) do { answer = (n); goto stop; } while (0)
 #define REACHES(a, n) \
     (alone ? (a) <= MEMORY - (n) : (a) <= reach.before - (n) || (a) - reach.own <= PART - (n))
-#define WITHIN(a, n, outside) do { if (!REACHES(a, n)) REFUSE((a) <= MEMORY - (n) ? 17 : (outside)); } while (0)
-#define BYTES(n) do { WITHIN(pc, n, 3); next = pc + (n); } while (0)
+#define WITHIN(n) do { if (!REACHES(pc, n)) REFUSE(pc <= MEMORY - (n) ? 17 : 3); } while (0)
+#define BYTES(n) do { WITHIN(n); next = pc + (n); } while (0)
 #define TAKES(n) do { if (p < (n)) REFUSE(5); } while (0)
 #define ROOM() do { if (p >= CELLS) REFUSE(8); } while (0)
 #define CALL(target) do { \
@@ -31,6 +31,24 @@ struct reach {
 #define SECOND param[p - 2]
 #define BINARY(value) do { TAKES(2); uint32_t v = (value); p--; TOP = v; } while (0)
 #define UNARY(value) do { TAKES(1); TOP = (value); } while (0)
+/* An access of so many bytes at address a: in memory, or from byte at of the cells in view, or nowhere. */
+#define ACCESS(bytes, in_memory, in_view) do { \
+        uint32_t at = a - VIEW; \
+        if (REACHES(a, bytes)) in_memory; \
+        else if (at <= VIEW_BYTES - (bytes)) in_view; \
+        else REFUSE(a <= MEMORY - (bytes) ? 17 : 12); \
+    } while (0)
+#define FETCH(bytes, in_memory, in_view) do { \
+        TAKES(1); \
+        uint32_t a = TOP; \
+        ACCESS(bytes, TOP = in_memory, TOP = in_view); \
+    } while (0)
+#define STORE(bytes, in_memory, in_view) do { \
+        TAKES(2); \
+        uint32_t a = TOP; \
+        ACCESS(bytes, in_memory, in_view); \
+        p -= 2; \
+    } while (0)
 #define TRUTH(condition) ((condition) ? 0xFFFFFFFFu : 0u)
 
 /* Carries out instructions and counts them, until so many are counted; of a task among four also until a PAUSE. Answers 1 where the
@@ -44,7 +62,7 @@ static inline __attribute__((always_inline)) uint64_t instructions(struct machin
 
     for (;;) {
         if (steps == budget) REFUSE(1);
-        WITHIN(pc, 1, 3);
+        WITHIN(1);
         uint32_t code = mem[pc];
         if (code >= 0x80) {
             BYTES(2);
@@ -193,39 +211,12 @@ static inline __attribute__((always_inline)) uint64_t instructions(struct machin
             TOP = a / b;
             break;
         }
-        case 0x2D: {
-            TAKES(1);
-            uint32_t a = TOP;
-            if (REACHES(a, 4)) TOP = get32(mem + a);
-            else if (a <= MEMORY - 4) REFUSE(17);
-            else if (a < FIRST_LOCAL || a >= LISTED_END || a % 4 != 0) REFUSE(12);
-            else if (a < FIRST_CATCH_CELL) TOP = m->frames[s].locals[(a - FIRST_LOCAL) / 4];
-            else TOP = m->levels[e].cells[(a - FIRST_CATCH_CELL) / 4];
-            break;
-        }
-        case 0x2E: {
-            TAKES(2);
-            uint32_t a = TOP, n = SECOND;
-            if (REACHES(a, 4)) put32(mem + a, n);
-            else if (a <= MEMORY - 4) REFUSE(17);
-            else if (a < FIRST_LOCAL || a >= LISTED_END || a % 4 != 0) REFUSE(12);
-            else if (a < FIRST_CATCH_CELL) m->frames[s].locals[(a - FIRST_LOCAL) / 4] = n;
-            else m->levels[e].cells[(a - FIRST_CATCH_CELL) / 4] = n;
-            p -= 2;
-            break;
-        }
-        case 0x2F: TAKES(1); WITHIN(TOP, 2, 12); TOP = get16(mem + TOP); break;
-        case 0x30: {
-            TAKES(2);
-            uint32_t a = TOP, n = SECOND;
-            WITHIN(a, 2, 12);
-            mem[a] = (uint8_t)(n >> 8);
-            mem[a + 1] = (uint8_t)n;
-            p -= 2;
-            break;
-        }
-        case 0x31: TAKES(1); WITHIN(TOP, 1, 12); TOP = mem[TOP]; break;
-        case 0x32: TAKES(2); WITHIN(TOP, 1, 12); mem[TOP] = (uint8_t)SECOND; p -= 2; break;
+        case 0x2D: FETCH(4, get32(mem + a), get32_in_view(m, s, e, at)); break;
+        case 0x2E: STORE(4, put32(mem + a, SECOND), put32_in_view(m, s, e, at, SECOND)); break;
+        case 0x2F: FETCH(2, get16(mem + a), get_in_view(m, s, e, at, 2)); break;
+        case 0x30: STORE(2, put16(mem + a, SECOND), put_in_view(m, s, e, at, 2, SECOND)); break;
+        case 0x31: FETCH(1, mem[a], get8_in_view(m, s, e, at)); break;
+        case 0x32: STORE(1, mem[a] = (uint8_t)SECOND, put8_in_view(m, s, e, at, SECOND)); break;
         case 0x33: TAKES(1); if (TOP != 0) { ROOM(); param[p] = TOP; p++; } break;
         case 0x34: BYTES(2); ROOM(); param[p++] = mem[pc + 1]; break;
         case 0x35: BYTES(3); ROOM(); param[p++] = get16(mem + pc + 1); break;

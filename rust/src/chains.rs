@@ -1,10 +1,11 @@
 //! Runs that begin with a state in place of an image.
 
-use crate::fragments::{Arena, Taste, STYLES};
+use crate::fragments::{any_access, Arena, Taste, STYLES};
 use crate::grower::Grower;
 use crate::model::reach::{Reach, TASKS};
 use crate::model::state::{Machine, MEMORY};
 use crate::model::tasks::Task;
+use crate::operands::over_an_end_of_view;
 use crate::random::Random;
 use crate::state_bytes::{RESULT_BYTES, STATE_BYTES};
 use crate::states::{broken, well_formed, CLAUSES};
@@ -106,10 +107,23 @@ fn any_instruction<R: Runner>(runner: &mut R, random: &mut Random) -> Result<u64
     let mut memory = memory(random);
     let at = if random.percent(10) { MEMORY - random.between(1, 5) } else { random.below(MEMORY) };
     machine.program_counter = at as u32;
-    memory[at] = if random.percent(90) { random.below(0x3F) as u8 } else { random.byte() };
+    memory[at] = match random.below(10) {
+        0 => random.byte(),
+        1 | 2 => partly_in_view(&mut machine, random),
+        _ => random.below(0x3F) as u8,
+    };
     let budget = random.between(0, 2) as u64;
     runner.state("state: any instruction", &mut machine, &mut memory, budget, Lengths::RIGHT)?;
     Ok(1)
+}
+
+/// The code of an access, for which the top cell becomes an address across an end of the cells in view.
+fn partly_in_view(machine: &mut Machine, random: &mut Random) -> u8 {
+    let (code, bytes) = any_access(random);
+    if let Some(top) = machine.p.checked_sub(1) {
+        machine.parameters[top] = over_an_end_of_view(random, bytes);
+    }
+    code
 }
 
 /// Several runs of one state, one after another, the memory changed in between.

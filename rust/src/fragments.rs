@@ -5,7 +5,7 @@ use crate::model::place::width;
 use crate::model::reach::Reach;
 use crate::model::refusal::refusal;
 use crate::model::state::{Machine, CATCHES, CELLS, FRAMES, MEMORY};
-use crate::operands::{address, cell, listed_cell, seam};
+use crate::operands::{address, cell, in_view, over_an_end_of_view, seam};
 use crate::random::Random;
 
 /// How often each kind of fragment is picked.
@@ -152,14 +152,19 @@ fn throw(random: &mut Random) -> Vec<u8> {
     }
 }
 
+/// The code of a fetch or a store, and the bytes that it moves.
+pub fn any_access(random: &mut Random) -> (u8, usize) {
+    let code = random.between(0x2D, 0x32) as u8;
+    (code, row_of(code).map_or(0, |row| width(row.op)))
+}
+
 /// A fetch, or a store of what lies below the address. Most addresses are good, many of them just so.
 fn access(random: &mut Random, reach: Reach) -> Vec<u8> {
-    let code = random.between(0x2D, 0x32) as u8;
-    let bytes = row_of(code).map_or(0, |row| width(row.op));
+    let (code, bytes) = any_access(random);
     let address = match random.below(32) {
         0 => address(random),
         1..=9 => edge(random, reach, bytes),
-        10..=25 if bytes == 4 => listed_cell(random),
+        10..=25 => in_view(random, bytes),
         _ => allowed(reach, bytes, || random.below(MEMORY - bytes)),
     };
     [literal(address), vec![code]].concat()
@@ -206,7 +211,7 @@ pub fn ending(random: &mut Random, reach: Reach) -> Vec<u8> {
     if reach != Reach::Alone && random.percent(30) {
         return over_a_seam(random);
     }
-    match random.below(8) {
+    match random.below(10) {
         0 => vec![random.between(0x3F, 0x7F) as u8],
         1 => vec![random.pick(&[0x3A, 0x3B, 0x3C])],
         2 => vec![0x0C, 0x3D],
@@ -214,8 +219,15 @@ pub fn ending(random: &mut Random, reach: Reach) -> Vec<u8> {
         4 => vec![0x20, random.pick(&[0x2B, 0x2C])],
         5 => vec![0x34, 1, 0x0D],
         6 => [literal(address(random)), vec![random.between(0x2D, 0x32) as u8]].concat(),
+        7 | 8 => out_of_view(random),
         _ => vec![random.pick(&[0x3D, 0x20, 0x07, 0x0B, 0x39])],
     }
+}
+
+/// An access that is partly in view, or of one byte beside it.
+fn out_of_view(random: &mut Random) -> Vec<u8> {
+    let (code, bytes) = any_access(random);
+    [literal(over_an_end_of_view(random, bytes)), vec![code]].concat()
 }
 
 /// An access around a seam, or a jump there.

@@ -1,10 +1,14 @@
-//! The instructions that were completed, the levels they lost and the flags they found and left.
+//! The instructions that were completed, the levels they lost and the flags they found and left; and what was tried on
+//! the cells in view.
 
 use std::fmt;
 
 use crate::counts::{columns, Counted};
 use crate::model::codes::{known_codes, row_of, Op};
 use crate::model::observer::{Observer, Seen};
+use crate::model::reach::Reach;
+use crate::model::state::{Machine, MEMORY};
+use crate::view_tally::ViewTally;
 
 const LOSERS: [&str; 3] = ["EXIT", "R>", "THROW"];
 /// The sums and differences, whether they move the flag or leave it.
@@ -23,6 +27,7 @@ pub struct InstructionTally {
     flags: [[u64; 2]; SUMS.len()],
     /// How often each of `LEAVERS` left a flag that was not its own carry or borrow.
     left: [u64; LEAVERS.len()],
+    view: ViewTally,
 }
 
 impl Default for InstructionTally {
@@ -33,11 +38,16 @@ impl Default for InstructionTally {
             catches_lost: [0; 3],
             flags: Default::default(),
             left: Default::default(),
+            view: ViewTally::default(),
         }
     }
 }
 
 impl Observer for InstructionTally {
+    fn trying(&mut self, reach: Reach, machine: &Machine, memory: &[u8; MEMORY]) {
+        self.view.trying(reach, machine, memory);
+    }
+
     fn completed(&mut self, code: u8, before: Seen, after: Seen) {
         self.codes[usize::from(code)] += 1;
         if let Some(sum) = SUMS.iter().position(|&sum| sum == code) {
@@ -59,7 +69,7 @@ impl Observer for InstructionTally {
 
 impl InstructionTally {
     pub fn all(&self) -> Vec<Counted> {
-        [self.code_counts(), self.loss_counts(), self.flag_counts(), self.left_counts()].concat()
+        [self.code_counts(), self.loss_counts(), self.flag_counts(), self.left_counts(), self.view.counts()].concat()
     }
 
     /// How often an instruction was completed, its codes taken together.
@@ -105,7 +115,8 @@ impl fmt::Display for InstructionTally {
         columns(f, "instructions completed", 6, 10, self.code_counts())?;
         columns(f, "levels lost", 3, 26, self.loss_counts())?;
         columns(f, "flag before a sum or difference", 4, 22, self.flag_counts())?;
-        columns(f, "flag other than their own carry or borrow", 3, 22, self.left_counts())
+        columns(f, "flag other than their own carry or borrow", 3, 22, self.left_counts())?;
+        columns(f, "accesses to the cells in view", 3, 26, self.view.counts())
     }
 }
 

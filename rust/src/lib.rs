@@ -31,3 +31,4 @@ pub mod tally;
 pub mod task_chains;
 pub mod touches;
 pub mod turn_tally;
+pub mod view_tally;

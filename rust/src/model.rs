@@ -24,4 +24,6 @@ pub mod tasks;
 pub mod turn;
 #[cfg(test)]
 mod turns;
+#[cfg(test)]
+mod view;
 pub mod word;

@@ -19,7 +19,7 @@ pub struct SpeedImage {
 }
 
 pub fn speed_images() -> Vec<SpeedImage> {
-    let long = |name, source| SpeedImage {
+    let long = |name, source: &str| SpeedImage {
         name,
         file: image(&assemble(source), &[1, 2], Some(STEPS)),
         steps: STEPS.into(),
@@ -31,6 +31,8 @@ pub fn speed_images() -> Vec<SpeedImage> {
         long("exceptions", EXCEPTIONS),
         long("arithmetic", ARITHMETIC),
         long("branches", BRANCHES),
+        long("flags", &flags(0x10000)),
+        long("bytes", &flags(0x4000)),
         SpeedImage { name: "small run", file: image(&assemble(SMALL), &[1, 2], None), steps: 10, per_step: false },
     ]
 }
@@ -125,6 +127,27 @@ const BRANCHES: &str = "
              BRA next
 ";
 
+/// A word that keeps four flags in bytes from this address on, those of a local or of memory: each round sets three, asks
+/// three and now and then counts in the fourth. Of 24 steps, 6 are FETCH.B or STORE.B.
+fn flags(at: u32) -> String {
+    let [odd, low, both, last] = [0, 1, 2, 3].map(|byte| format!("LOAD.L ${:X}", at + byte));
+    // A call clears the local, so the STORE.L that clears all four at once is wanted by memory alone.
+    format!(
+        "
+    start:   JSL survey  BRA start
+    survey:  ZERO  {odd}  STORE.L
+             LOAD.B 64
+    next:    DUP  LOAD.B 1  AND  {odd}  STORE.B
+             DUP  LOAD.B 9  U<  {low}  STORE.B
+             {odd}  FETCH.B  {low}  FETCH.B  AND  BEQ asked
+             {both}  FETCH.B  1+  {both}  STORE.B
+    asked:   1-  DUP  0=  {last}  STORE.B
+             {last}  FETCH.B  BEQ next
+             DROP  EXIT
+    "
+    )
+}
+
 /// Ten steps and an end.
 const SMALL: &str = "LOAD.B 5  LOAD.B 7  +  DUP  LOAD.W $4000  STORE.L  JSL word  1+  DUP  EXIT  word: EXIT";
 
@@ -152,10 +175,10 @@ mod tests {
     }
 
     #[test]
-    fn programs_run_as_long_as_they_say() {
-        for image in speed_images() {
-            counts(&image);
-        }
+    fn programs_run_as_long_as_they_say_and_flags_as_bytes_do() {
+        let counted: Vec<_> = speed_images().iter().map(|image| (image.name, counts(image).0)).collect();
+        let of = |name| counted.iter().find(|(known, _)| *known == name).expect("an image of this name").1;
+        assert_eq!(of("flags"), of("bytes"));
     }
 
     #[test]

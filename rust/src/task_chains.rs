@@ -2,13 +2,13 @@
 
 use crate::assembler::assemble;
 use crate::chains::{memory, Lengths, Runner};
-use crate::fragments::{Arena, Taste, STYLES};
+use crate::fragments::{any_access, Arena, Taste, STYLES};
 use crate::grower::Grower;
 use crate::model::reach::{Reach, PART, SHARED, TASKS};
 use crate::model::run::MAX_BUDGET;
 use crate::model::state::{Answer, Machine, MEMORY};
 use crate::model::tasks::{run_tasks, Task, READY};
-use crate::operands::{around, seam};
+use crate::operands::{around, in_view, over_an_end_of_view, seam};
 use crate::random::Random;
 use crate::state_bytes::{RESULT_BYTES, TASKS_BYTES};
 use crate::states::{broken, well_formed, CLAUSES};
@@ -75,15 +75,17 @@ fn wrong_call<R: Runner>(runner: &mut R, random: &mut Random) -> Result<u64, R::
     Ok(1)
 }
 
-/// Any instruction around a seam, or an access in shared code whose data is around one, at the program counter of any task.
+/// Any instruction around a seam, or an access in shared code whose data is around one or around the cells in view, at
+/// the program counter of any task.
 fn any_instructions<R: Runner>(runner: &mut R, random: &mut Random) -> Result<u64, R::Failure> {
     let mut tasks = good_tasks(random);
     let mut memory = memory(random);
     for (number, task) in tasks.iter_mut().enumerate() {
-        let (at, code) = if random.percent(50) {
-            (near(random, number), any_code(random))
+        let (at, code, data) = if random.percent(50) {
+            (near(random, number), any_code(random), near(random, number))
         } else {
-            (random.below(SHARED) as u32, random.between(0x2D, 0x32) as u8)
+            let (code, bytes) = any_access(random);
+            (random.below(SHARED) as u32, code, data(random, number, bytes))
         };
         let machine = &mut task.machine;
         machine.program_counter = at;
@@ -91,12 +93,21 @@ fn any_instructions<R: Runner>(runner: &mut R, random: &mut Random) -> Result<u6
             *byte = code;
         }
         if machine.p > 0 && random.percent(90) {
-            machine.parameters[machine.p - 1] = near(random, number);
+            machine.parameters[machine.p - 1] = data;
         }
     }
     let pace = Pace { quantum: random.pick(&[1, 1, 2, 3, 1_000]), budget: random.between(0, 12) as u64 };
     runner.tasks(ANY_INSTRUCTIONS, &mut tasks, &mut memory, pace, RIGHT)?;
     Ok(1)
+}
+
+/// An address for so many bytes: around a seam, in view, or partly in view.
+fn data(random: &mut Random, number: usize, bytes: usize) -> u32 {
+    match random.below(10) {
+        0..=5 => near(random, number),
+        6 => in_view(random, bytes),
+        _ => over_an_end_of_view(random, bytes),
+    }
 }
 
 /// An address around the end of shared memory, around an end of the task's own part, around any seam, or anywhere.

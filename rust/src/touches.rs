@@ -1,8 +1,8 @@
-//! What an instruction of a task tries to touch.
+//! What an instruction tries to touch.
 
 use std::ops::Range;
 
-use crate::model::codes::row_of;
+use crate::model::codes::{fetch, row_of};
 use crate::model::place::width;
 use crate::model::reach::Reach;
 use crate::model::state::{Machine, MEMORY};
@@ -25,10 +25,8 @@ impl Touches {
         let row = if is_reached(start) { row_of(memory[start]) } else { None };
         let length = row.map_or(1, |row| row.bytes as usize);
         let reached = (start..start + length).take_while(|&at| is_reached(at)).count();
-        let accesses = row.filter(|row| width(row.op) > 0 && machine.p >= row.takes);
-        let data = accesses.map(|row| {
-            let address = machine.parameters[machine.p - 1] as usize;
-            (address..address + width(row.op), if row.takes == 2 { "write" } else { "read" })
+        let data = data_of(Reach::Task(number), machine, memory).map(|(code, bytes)| {
+            (bytes, if row_of(code).is_some_and(|row| row.takes == 2) { "write" } else { "read" })
         });
         let refused = match reached {
             0 => "first byte",
@@ -37,4 +35,14 @@ impl Touches {
         };
         Touches { number, code: start..start + length.min(reached + 1), data, refused }
     }
+}
+
+/// The code of a machine's next instruction and the bytes of its data; nothing where it has none or is refused before.
+pub fn data_of(reach: Reach, machine: &Machine, memory: &[u8; MEMORY]) -> Option<(u8, Range<usize>)> {
+    let row = fetch(memory, reach, machine.program_counter).ok()?.row;
+    if width(row.op) == 0 || machine.p < row.takes {
+        return None;
+    }
+    let address = machine.parameters[machine.p - 1] as usize;
+    Some((memory[machine.program_counter as usize], address..address + width(row.op)))
 }

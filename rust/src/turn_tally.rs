@@ -203,6 +203,7 @@ impl TurnTally {
 impl Observer for TurnTally {
     fn trying(&mut self, reach: Reach, machine: &Machine, memory: &[u8; MEMORY]) {
         let Reach::Task(number) = reach else { return };
+        self.instructions.trying(reach, machine, memory);
         let touches = Touches::of(number, machine, memory);
         self.saw_touch(number, &touches.code, "instruction");
         self.touches = Some(touches);

@@ -75,7 +75,7 @@ tests i m row =
     test 10 (both (wants row frameRoom) (leb subroutinesDepth (m .links .s))) ∷
     -- E would pass 8
     test 11 (both (wants row levelRoom) (leb exceptionsDepth (m .links .e))) ∷
-    -- address neither in memory nor a listed cell
+    -- address neither in memory nor in view
     test 12 (lacks row aPlace) ∷
     -- divisor zero
     test 13 (lacks row aDivisor) ∷

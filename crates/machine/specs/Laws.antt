@@ -16,6 +16,8 @@ pub mod Prices
 pub mod Pausing
 -- the instructions on the linked stacks and the arithmetic on two cells stand at one code each
 pub mod Marks
+-- cells as bytes
+pub mod CellBytes
 -- what every row keeps, kind by kind
 pub mod Told
 -- what a row puts is what the table says
@@ -34,6 +36,8 @@ pub mod Readings
 pub mod Starred
 -- a step and a run keep what a machine and a memory that exist can hold
 pub mod Carries
+-- whole cells at their addresses, and their bytes
+pub mod Exact
 -- a machine as an image starts it exists
 pub mod Started
 -- from what cannot be, anything

@@ -8,6 +8,8 @@ pub mod State
 pub mod Codes
 -- where an access lies
 pub mod Memory
+-- the cells in view as bytes
+pub mod View
 -- the instruction at the program counter
 pub mod Fetch
 -- what each instruction does, a row for each

@@ -1,13 +1,12 @@
--- An access lies in memory, in a local cell, in an exception cell or nowhere.
-use mathlib.Core.Bool.{Bool, true, false}
-use Prim.Native.Nat.{ℕ, _+_, _-_, _/_, _%_}
-use lib.Dec.{leb, eqb}
+-- An access lies in memory, in view or nowhere: document 01, with request P5 for the cells.
+use Prim.Native.Nat.{ℕ, _+_, _-_}
+use lib.Dec.{leb}
 use Rattle.plain.specs.Choice.{pick, both}
 use Rattle.machine.specs.Limits.{memoryLength}
 use Rattle.machine.specs.declared.Width.{Width}
 use Rattle.machine.specs.declared.Width.the-variants.{Byte, Word, Long}
 use Rattle.machine.specs.declared.Place.{Place}
-use Rattle.machine.specs.declared.Place.the-variants.{Memory, Local, Cell, Nowhere}
+use Rattle.machine.specs.declared.Place.the-variants.{Memory, View, Nowhere}
 
 -- how many bytes an access touches
 abbrev pub size : Width → ℕ
@@ -15,33 +14,17 @@ size Byte = 1
 size Word = 2
 size Long = 4
 
-abbrev pub isLong : Width → Bool
-isLong Byte = false
-isLong Word = false
-isLong Long = true
+-- the bytes in view stand from the first address to before the second: those of the locals of level S, from 10040 on those of the
+-- cells of level E
+abbrev pub viewStart : ℕ
+viewStart = 0x10000
 
--- one of the cells that stand 4 bytes apart from the first address to the last
-abbrev pub isListedCell : ℕ → ℕ → ℕ → Bool
-isListedCell first last a = both (leb first a) (both (leb a last) (eqb (a % 4) 0))
+abbrev pub viewEnd : ℕ
+viewEnd = 0x10060
 
--- the locals of level S, the cells of level E
-abbrev pub firstLocal : ℕ
-firstLocal = 0x10000
-
-abbrev pub lastLocal : ℕ
-lastLocal = 0x1003C
-
-abbrev pub firstCell : ℕ
-firstCell = 0x10040
-
-abbrev pub lastCell : ℕ
-lastCell = 0x1005C
-
--- wholly inside memory; else, for FETCH.L and STORE.L alone, a local or an exception cell at its exact address
+-- wholly inside memory; wholly in view, from its first byte on; or nowhere
 unfoldable pub placeOf : Width → ℕ → Place
 placeOf w a =
     pick (leb (a + size w) memoryLength)
     (Memory a)
-    (pick (both (isLong w) (isListedCell firstLocal lastLocal a))
-    (Local ((a - firstLocal) / 4))
-    (pick (both (isLong w) (isListedCell firstCell lastCell a)) (Cell ((a - firstCell) / 4)) Nowhere))
+    (pick (both (leb viewStart a) (leb (a + size w) viewEnd)) (View (a - viewStart)) Nowhere)

@@ -1,11 +1,12 @@
 -- What each instruction does, a row for each: document 01, "Codes" and "Linked stacks". Stack comments read top last.
-use mathlib.Core.List.{List, [], _∷_}
+use mathlib.Core.List.{List, [], _∷_, _++_}
 use Prim.Native.Nat.{ℕ, _-_}
 use lib.Dec.{eqb}
-use lib.ListN.{getD, set}
+use lib.ListN.{getD, take, drop}
 use lib.Seq.{sets}
 use Rattle.plain.specs.Choice.{pick}
 use Rattle.numbers.specs.Bytes.{numberAt, bytesOf}
+use Rattle.links.specs.Depths.{localsCount}
 use Rattle.links.specs.Linked.{frameAt, levelAt, copyOfP}
 use Rattle.links.specs.Actions.{Act, still, push, call, catch, exit, pop, throw, keep, reset}
 use Rattle.word.specs.Dispatch.{oneCellOf, twoCellsOf}
@@ -14,16 +15,17 @@ use Rattle.word.specs.declared.Outcome.{Outcome}
 use Rattle.word.specs.declared.Outcome.the-variants.{Single, Double, DivisorZero}
 use Rattle.machine.specs.Codes.{Shuffle, NOP, DROP, DUP, SWAP, OVER, NIP, ROT, PSP-AT, ZERO, DUP-NONZERO, PAUSE, Jump, JMP, BEQ, BRA, Link, >R, R-AT, R>, CATCH, RESETSP, THROW, JSL, JSR, EXIT, Op, SHUFFLE, JUMP, LINK, ONE, TWO, FETCH, STORE, LITERAL, entryAt}
 use Rattle.machine.specs.Memory.{size, placeOf}
+use Rattle.machine.specs.View.{bytesOfCells, overwritten}
 use Rattle.machine.specs.Fetch.{Instruction}
 use Rattle.machine.specs.declared.Machine.{Machine}
 use Rattle.machine.specs.declared.Width.{Width}
 use Rattle.machine.specs.declared.Place.{Place}
-use Rattle.machine.specs.declared.Place.the-variants.{Memory, Local, Cell, Nowhere}
+use Rattle.machine.specs.declared.Place.the-variants.{Memory, View, Nowhere}
 
 -- what an instruction finds missing, besides parameter cells and what its action needs (Checks.antt)
 pub data Lack : Type 0 where
   nothing : Lack
-  -- a return cell to read; a place in memory or a listed cell at its address; a divisor that is not zero
+  -- a return cell to read; a place in memory or in view at its address; a divisor that is not zero
   aReturnCell aPlace aDivisor : Lack
   deriving Discrete as Lack-discrete
 
@@ -75,12 +77,19 @@ third m = getD (m .cells) (m .p - 3) 0
 abbrev pub topReturn : Machine → ℕ
 topReturn m = getD (m .links .returns) (m .links .r - 1) 0
 
--- the cells in view: the locals of level S, the cells of level E
+-- the cells in view: the locals of level S, then the cells of level E
 abbrev pub localsInView : Machine → List ℕ
 localsInView m = frameAt (m .links) (m .links .s) .locals
 
 abbrev pub cellsInView : Machine → List ℕ
 cellsInView m = levelAt (m .links) (m .links .e) .cells
+
+abbrev pub inView : Machine → List ℕ
+inView m = localsInView m ++ cellsInView m
+
+-- a store to them
+abbrev pub keepInView : List ℕ → Act
+keepInView cells = keep (take localsCount cells) (drop localsCount cells)
 
 module _ (i : Instruction) (mem : List ℕ) (m : Machine) where
   -- the depth under the cells that the code takes
@@ -113,15 +122,13 @@ module _ (i : Instruction) (mem : List ℕ) (m : Machine) where
 
   abbrev pub fetchRow : Width → Place → Row
   fetchRow w (Memory a) = touching a (size w) (cellsRow (numberAt (size w) mem a ∷ []))
-  fetchRow w (Local k) = cellsRow (getD (localsInView m) k 0 ∷ [])
-  fetchRow w (Cell k) = cellsRow (getD (cellsInView m) k 0 ∷ [])
+  fetchRow w (View a) = cellsRow (numberAt (size w) (bytesOfCells (inView m)) a ∷ [])
   fetchRow w Nowhere = lacking aPlace
 
   abbrev pub storeRow : Width → Place → Row
   storeRow w (Memory a) =
       touching a (size w) (make under [] still (i .next) (m .flag) (sets mem a (bytesOf (size w) (second m))) nothing)
-  storeRow w (Local k) = jump (keep (set (localsInView m) k (second m)) (cellsInView m)) (i .next)
-  storeRow w (Cell k) = jump (keep (localsInView m) (set (cellsInView m) k (second m))) (i .next)
+  storeRow w (View a) = jump (keepInView (overwritten (inView m) a (bytesOf (size w) (second m)))) (i .next)
   storeRow w Nowhere = lacking aPlace
 
   -- the cells that a shuffle puts

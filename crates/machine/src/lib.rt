@@ -58,10 +58,9 @@ pub enum Width {
     Long,
 }
 
-// Where an access lies: in memory from this address; in this local cell of level S; in this cell of level E; or nowhere.
+// Where an access lies: in memory from this address; in view from this byte of the cells in view; or nowhere.
 pub enum Place {
     Memory(usize),
-    Local(usize),
-    Cell(usize),
+    View(usize),
     Nowhere,
 }

@@ -6,6 +6,8 @@ pub mod Bytes
 pub mod Writing
 -- Lists of numbers: the same for each of them.
 pub mod Lists
+-- Bytes written among the bytes of a list of numbers.
+pub mod Rewriting
 -- Digits: how they go on, and how many there are.
 pub mod Digits
 -- What digits say is the number that was written.

@@ -1,42 +1,36 @@
--- Where a long access outside memory lies: the locals and the exception cells stand 4 bytes apart.
-use mathlib.Core.Path.{_≡_, refl}
+-- An access that begins in view or past it: where it ends, and whether it is to the whole of a cell.
+use mathlib.Core.Path.{_≡_, refl, ap, _∙_}
 use mathlib.Core.Bool.{Bool, true, false}
-use Prim.Native.Nat.{ℕ, _-_, _/_, _%_, _≤_, _<_}
+use Prim.Native.Nat.{ℕ, _+_, _-_, _%_, _≤_, _<_}
 use native.Mathlib.Omega.{arith}
-use borrow.Author.Tests.{le-leb, lt-leb, eq-eqb, ne-eqb}
-use lib.Dec.{leb}
+use borrow.Author.Tests.{le-leb, lt-leb, ne-eqb}
+use lib.Dec.{eqb}
+use Rattle.plain.specs.Answer.{refuses, gives}
 use Rattle.plain.specs.Choice.{both}
-use Rattle.machine.specs.Memory.{firstLocal, lastLocal, firstCell, lastCell}
-use Rattle.machine.specs.declared.Place.the-variants.{Local, Cell, Nowhere}
-use Rattle.reach.specs.Spots.{cellAt}
+use Rattle.machine.specs.Memory.{size, viewStart, viewEnd}
+use Rattle.machine.specs.Reach.{alone}
+use Rattle.machine.specs.declared.Width.{Width}
+use Rattle.machine.specs.declared.Place.the-variants.{View}
+use Rattle.reach.specs.Spots.{viewPlace, allowed, isWhole}
 
-neither : (x y : Bool) → both x (both y false) ≡ false
-neither true true = refl
-neither true false = refl
-neither false y = refl
+module _ (w : Width) (a : ℕ) {bytes : ℕ} (es : bytes ≡ size w) where
+  pub past-view : viewEnd < a + bytes → refuses 12 ≡ allowed alone w (viewPlace w a)
+  past-view h = let past : viewEnd < a + size w = omega arith in rw (lt-leb (a + size w) viewEnd past)
 
-module _ (a : ℕ) where
-  pub cell-low : a < firstLocal → Nowhere ≡ cellAt a
-  cell-low h =
-      let lower : a < firstCell = omega arith in
-      rw (lt-leb firstLocal a h, lt-leb firstCell a lower)
+  pub within-view : a + bytes ≤ viewEnd → {k : ℕ} → k ≡ a - viewStart → gives (View k) ≡ allowed alone w (viewPlace w a)
+  within-view h e =
+      let within : a + size w ≤ viewEnd = omega arith in
+      ap (λ (x : ℕ). gives (View x)) e ∙ rw (le-leb (a + size w) viewEnd within)
 
-  pub cell-high : lastCell < a → Nowhere ≡ cellAt a
-  cell-high h =
-      let first : firstLocal ≤ a = omega arith in
-      let second : firstCell ≤ a = omega arith in
-      let past : lastLocal < a = omega arith in
-      rw (le-leb firstLocal a first, lt-leb a lastLocal past, le-leb firstCell a second, lt-leb a lastCell h)
+  -- fewer than four bytes are no whole cell, and neither are four that begin within one
+  pub short-access : bytes < 4 → isWhole w (a - viewStart) ≡ false
+  short-access h = let few : size w ≡ 4 → ⊥ = λ e. omega arith in rw (ne-eqb (size w) 4 few)
 
-  pub cell-between : (a % 4 ≡ 0 → ⊥) → Nowhere ≡ cellAt a
-  cell-between h =
-      rw (ne-eqb (a % 4) 0 h, neither (leb firstLocal a) (leb a lastLocal), neither (leb firstCell a) (leb a lastCell))
-
-  pub cell-local : firstLocal ≤ a → a ≤ lastLocal → a % 4 ≡ 0 → Local ((a - firstLocal) / 4) ≡ cellAt a
-  cell-local h g e = rw (le-leb firstLocal a h, le-leb a lastLocal g, eq-eqb (a % 4) 0 e)
-
-  pub cell-cell : lastLocal < a → a ≤ lastCell → a % 4 ≡ 0 → Cell ((a - firstCell) / 4) ≡ cellAt a
-  cell-cell h g e =
-      let first : firstLocal ≤ a = omega arith in
-      let second : firstCell ≤ a = omega arith in
-      rw (le-leb firstLocal a first, lt-leb a lastLocal h, le-leb firstCell a second, le-leb a lastCell g, eq-eqb (a % 4) 0 e)
+  pub between-cells : viewStart ≤ a → (a % 4 ≡ 0 → ⊥) → isWhole w (a - viewStart) ≡ false
+  between-cells h within =
+      let between : (a - viewStart) % 4 ≡ 0 → ⊥ = λ e. within (omega arith) in
+      rw (ne-eqb ((a - viewStart) % 4) 0 between) (neither (eqb (size w) 4))
+    where
+      neither : (b : Bool) → both b false ≡ false
+      neither true = refl
+      neither false = refl

@@ -1,28 +1,23 @@
--- An access: in memory and in reach, in memory and in another's part, a cell in view, or nowhere.
+-- An access: in memory and in reach, in memory and in another's part, in view, or nowhere.
 use mathlib.Core.Path.{_≡_, refl, ap, sym, _∙_, subst}
 use mathlib.Core.Bool.{Bool, true, false}
-use Prim.Native.Nat.{ℕ, zero, suc, _+_, _-_, _/_, _≤_, _<_}
+use Prim.Native.Nat.{ℕ, zero, suc, _+_, _-_, _≤_, _<_}
 use native.Mathlib.Omega.{arith}
-use borrow.Author.Tests.{le-leb, lt-leb, lt-ltb, ne-eqb}
-use lib.Dec.{T, ltb, leb, eqb, leb→le}
+use borrow.Author.Tests.{le-leb, lt-leb, lt-ltb}
+use lib.Dec.{T, ltb, leb, leb→le}
 use Rattle.plain.specs.Answer.{Answer, refuses, gives}
 use Rattle.plain.specs.Choice.{pick, both}
 use Rattle.plain.specs.Laws.Choice.{both-parts}
 use Rattle.machine.specs.Limits.{memoryLength}
 use Rattle.machine.specs.Reach.{Bar, none, alone, barOf, isForeign}
-use Rattle.machine.specs.Memory.{size, isLong, placeOf, isListedCell, firstLocal, lastLocal, firstCell, lastCell}
-use Rattle.machine.specs.Laws.Clash.{never}
+use Rattle.machine.specs.Memory.{size, placeOf, viewStart, viewEnd}
 use Rattle.machine.specs.declared.Reach.{Reach}
 use Rattle.machine.specs.declared.Width.{Width}
-use Rattle.machine.specs.declared.Width.the-variants.{Byte, Word, Long}
 use Rattle.machine.specs.declared.Place.{Place}
-use Rattle.machine.specs.declared.Place.the-variants.{Memory, Local, Cell, Nowhere}
-use Rattle.reach.specs.Spots.{widthOf, cellAt, allowed, spotOf, saysReached, inOwn, ToldApart}
-use Rattle.reach.specs.declared.Spot.the-variants as spot
-use Rattle.reach.specs.declared.Reached.{Reached}
-use Rattle.reach.specs.declared.Reached.the-variants as reached
+use Rattle.machine.specs.declared.Place.the-variants.{Memory, View, Nowhere}
+use Rattle.reach.specs.Spots.{viewPlace, allowed, spotOf, inOwn}
 
--- an access that is no cell's
+-- an access that begins below the cells
 abbrev pub inMemory : Width → ℕ → Place
 inMemory w a = pick (leb (a + size w) memoryLength) (Memory a) Nowhere
 
@@ -41,45 +36,20 @@ module _ (reach : Reach) (w : Width) (a : ℕ) {bytes : ℕ} (es : bytes ≡ siz
     allowed-here h = rw (inside within, sym es, sym eb, sym h)
 
 -- below the cells an access is in memory or nowhere
-pub below-cells : (reach : Reach) (w : Width) (a : ℕ) {said : Answer Place} → a < firstLocal → said ≡ allowed reach w (inMemory w a) → said ≡ spotOf reach w a
+pub below-cells : (reach : Reach) (w : Width) (a : ℕ) {said : Answer Place} → a < viewStart → said ≡ allowed reach w (inMemory w a) → said ≡ spotOf reach w a
 unfolding spotOf placeOf
-below-cells reach w a h e =
-    let lower : a < firstCell = omega arith in
-    rw (lt-leb firstLocal a h, lt-leb firstCell a lower, neither (isLong w)) e
+below-cells reach w a h e = rw (lt-leb viewStart a h) e
+
+-- from there on it is in view or nowhere, and nobody else's
+pub past-memory : (reach : Reach) (w : Width) (a : ℕ) {said : Answer Place} → viewStart ≤ a → said ≡ allowed alone w (viewPlace w a) → said ≡ spotOf reach w a
+unfolding spotOf placeOf
+past-memory reach w a above e =
+    let past : memoryLength < a + size w = omega arith in
+    rw (lt-leb (a + size w) memoryLength past, le-leb viewStart a above) (e ∙ go (leb (a + size w) viewEnd))
   where
-    neither : (b : Bool) → both b false ≡ false
-    neither true = refl
-    neither false = refl
-
--- the codes of a shorter access
-pub short-width : (code : ℕ) → (code ≡ 0x2D → ⊥) → (code ≡ 0x2E → ⊥) → isLong (widthOf code) ≡ false
-short-width code not-fetch not-store = rw (ne-eqb code 0x2D not-fetch, ne-eqb code 0x2E not-store) (go (eqb code 0x2F) (eqb code 0x30))
-  where
-    go : (x y : Bool) → isLong (pick x Word (pick y Word Byte)) ≡ false
-    go true y = refl
-    go false true = refl
-    go false false = refl
-
--- a cell in view is nobody else's
-module _ (reach : Reach) (a : ℕ) (above : firstLocal ≤ a) where
-  past-memory : (w : Width) → leb (a + size w) memoryLength ≡ false
-  past-memory w = lt-leb (a + size w) memoryLength (omega arith)
-
-  pub long-cell : {said : Answer Place} → said ≡ allowed alone Long (cellAt a) → said ≡ spotOf reach Long a
-  unfolding spotOf placeOf
-  long-cell e = rw (past-memory Long) (e ∙ go (isListedCell firstLocal lastLocal a) (isListedCell firstCell lastCell a))
-    where
-      go : (x y : Bool) →
-          allowed alone Long (pick x (Local ((a - firstLocal) / 4)) (pick y (Cell ((a - firstCell) / 4)) Nowhere)) ≡
-          allowed reach Long (pick x (Local ((a - firstLocal) / 4)) (pick y (Cell ((a - firstCell) / 4)) Nowhere))
-      go true y = refl
-      go false true = refl
-      go false false = refl
-
-  -- a shorter access reaches none
-  pub no-cell : (w : Width) → isLong w ≡ false → refuses 12 ≡ spotOf reach w a
-  unfolding spotOf placeOf
-  no-cell w short = rw (past-memory w, short)
+    go : (x : Bool) → allowed alone w (pick x (View (a - viewStart)) Nowhere) ≡ allowed reach w (pick x (View (a - viewStart)) Nowhere)
+    go true = refl
+    go false = refl
 
 -- what lies in the own part may be touched
 module _ (reach : Reach) where
@@ -104,19 +74,3 @@ module _ (reach : Reach) where
         let t = both-parts (leb (reach .own) a) (leb (a + bytes) (reach .end)) (subst T (sym (sym eb ∙ v)) tt) in
         allowed-here reach w a es refl within
         (ap isForeign (sym (own-free bytes a within (leb→le (reach .own) a (t .0)) (leb→le (a + bytes) (reach .end) (t .1)))))
-
-no-memory : (a k : ℕ) → gives (Memory k) ≡ allowed alone Long (cellAt a) → ⊥
-no-memory a k e = go (isListedCell firstLocal lastLocal a) (isListedCell firstCell lastCell a) e
-  where
-    go : (x y : Bool) → gives (Memory k) ≡ allowed alone Long (pick x (Local ((a - firstLocal) / 4)) (pick y (Cell ((a - firstCell) / 4)) Nowhere)) → ⊥
-    go true y e = never (cc)
-    go false true e = never (cc)
-    go false false e = never (cc)
-
--- what reaches a cell, or nothing, is not in memory
-pub not-own : (reach : Reach) (w : Width) (a : ℕ) (r : Reached) → saysReached r ≡ allowed alone Long (cellAt a) → ToldApart reach w r
-not-own reach w a (reached.At (spot.Memory k)) e = absurd (no-memory a k e)
-not-own reach w a (reached.At (spot.Own k)) e = absurd (no-memory a k e)
-not-own reach w a (reached.At (spot.Local k)) e = tt
-not-own reach w a (reached.At (spot.Cell k)) e = tt
-not-own reach w a (reached.Refused number) e = tt

@@ -13,13 +13,14 @@ pub enum Barring {
     Foreign,
 }
 
-// Where a fetch or a store reaches: memory from this address, the own part from this address, this local of level S, this cell
-// of level E.
+// Where a fetch or a store reaches: memory from this address, the own part from this address, the whole of this local of level S, the
+// whole of this cell of level E, or the cells in view from this byte.
 pub enum Spot {
     Memory(usize),
     Own(usize),
     Local(usize),
     Cell(usize),
+    View(usize),
 }
 
 // An access reaches a place, or is refused.

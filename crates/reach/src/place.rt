@@ -10,10 +10,10 @@ ghost use lib.Dec.{leb};
 ghost use Rattle.plain.specs.Choice.{pick, both};
 ghost use Rattle.machine.specs.Limits.{memoryLength};
 ghost use Rattle.machine.specs.Reach.{alone};
-ghost use Rattle.machine.specs.Memory.{size};
-ghost use Rattle.machine.specs.declared.Width.the-variants.{Long};
+ghost use Rattle.machine.specs.Memory.{size, viewStart};
+ghost use Rattle.machine.specs.declared.Reach.{Reach};
 ghost use Rattle.machine.specs.declared.Place.the-variants.{Memory, Nowhere};
-ghost use Rattle.reach.specs.Spots.{widthOf, cellAt, allowed, spotOf, saysReached, ToldApart};
+ghost use Rattle.reach.specs.Spots.{widthOf, viewPlace, allowed, spotOf, saysReached, ToldApart};
 
 // By the width that the code of a fetch or a store names.
 fn size_of(code: u8) -> u8
@@ -41,7 +41,7 @@ fn in_own(reach: Reach, at: usize, end: usize) -> bool
     end <= reach.end
 }
 
-// An access that is no cell's: 12 before 17.
+// An access that begins below the cells: 12 before 17.
 fn in_memory(reach: Reach, code: u8, address: u32) -> Reached
     ensures { λ r. ⌜ (saysReached r ≡ allowed reach (widthOf code) (pick (leb (address + size (widthOf code)) memoryLength) (Memory address) Nowhere)) × ToldApart reach (widthOf code) r ⌝ }
 {
@@ -62,24 +62,29 @@ fn in_memory(reach: Reach, code: u8, address: u32) -> Reached
     Reached::At(Spot::Memory(at))
 }
 
-fn cell_at(address: u32) -> Reached
-    requires { ⌜ 0x10000 ≤ address ⌝ }
-    ensures { λ r. ⌜ saysReached r ≡ allowed alone Long (cellAt address) ⌝ }
+// An access that begins in view or past it. Nearly every one is to the whole of a cell.
+fn in_view(code: u8, address: u32) -> Reached
+    requires { ⌜ viewStart ≤ address ⌝ }
+    ensures { λ r. ⌜ (saysReached r ≡ allowed alone (widthOf code) (viewPlace (widthOf code) address)) × ((reach : Reach) → ToldApart reach (widthOf code) r) ⌝ }
 {
     let at = address as usize;
-    if 0x1005C < at {
+    let bytes = size_of(code);
+    if 0x10060 < at + bytes as usize {
         return Reached::Refused(12);
+    }
+    if bytes < 4 {
+        return Reached::At(Spot::View(at - 0x10000));
     }
     if at % 4 != 0 {
-        return Reached::Refused(12);
+        return Reached::At(Spot::View(at - 0x10000));
     }
-    if at <= 0x1003C {
+    if at < 0x10040 {
         return Reached::At(Spot::Local((at - 0x10000) / 4));
     }
     Reached::At(Spot::Cell((at - 0x10040) / 4))
 }
 
-// In memory, in a local cell, in an exception cell or refused: the one place where an access is judged.
+// In memory, in view or refused: the one place where an access is judged.
 // The width is told by the code, a number: docs/DECISIONS.md.
 pub fn spot_of(reach: Reach, code: u8, address: u32) -> Reached
     ensures { λ r. ⌜ (saysReached r ≡ spotOf reach (widthOf code) address) × ToldApart reach (widthOf code) r ⌝ }
@@ -87,9 +92,5 @@ pub fn spot_of(reach: Reach, code: u8, address: u32) -> Reached
     if address < 0x10000 {
         return in_memory(reach, code, address);
     }
-    match code {
-        0x2D => cell_at(address),
-        0x2E => cell_at(address),
-        _ => Reached::Refused(12),
-    }
+    in_view(code, address)
 }

@@ -2,10 +2,13 @@
 use mathlib.Core.Path.{_≡_, refl, ap, _∙_}
 use mathlib.Core.List.{List, []}
 use Prim.Native.Nat.{ℕ, suc, _+_}
-use lib.ListN.{replicate, length, getD-replicate}
-use Rattle.plain.specs.Laws.All.{all-replicate}
+use native.Mathlib.Omega.{arith}
+use lib.ListN.{replicate, length, take, getD-replicate}
+use Rattle.plain.specs.All.{All}
+use Rattle.plain.specs.Laws.All.{all-replicate, all-take}
 use Rattle.links.specs.Actions.{noLocals}
-use Rattle.links.specs.Depths.{framesCount, levelsCount, localsCount}
+use Rattle.links.specs.Depths.{framesCount, levelsCount, localsCount, levelCells}
+use Rattle.links.specs.Fits.{CellFits}
 use Rattle.links.specs.Fresh.{freshFrame, freshLevel, freshLinks}
 use Rattle.links.specs.declared.Frame.{Frame}
 use Rattle.links.specs.declared.Level.{Level}
@@ -32,12 +35,17 @@ zeroRows = replicate (framesCount + levelsCount) (replicate (suc localsCount) 0)
 abbrev pub zeroCopies : List ℕ
 zeroCopies = replicate copiesRoom 0
 
+zeros-fit : (n : ℕ) → All CellFits (take n (replicate (suc localsCount) 0))
+zeros-fit n = all-take CellFits n (replicate (suc localsCount) 0) (all-replicate CellFits (suc localsCount) 0 (omega arith))
+
 pub zeros-laid : Laid zeroRows zeroCopies
 zeros-laid =
     record {
       rows-long = refl;
       rows-wide = all-replicate (λ (row : List ℕ). length row ≡ suc localsCount) (framesCount + levelsCount) (replicate (suc localsCount) 0) refl;
       copies-long = refl;
+      locals-fit = λ s h. rw (getD-replicate (framesCount + levelsCount) s (replicate {A = ℕ} (suc localsCount) 0) [] (omega arith)) (zeros-fit localsCount);
+      cells-fit = λ e h. rw (getD-replicate (framesCount + levelsCount) (framesCount + e) (replicate {A = ℕ} (suc localsCount) 0) [] (omega arith)) (zeros-fit levelCells);
     }
 
 pub zeros-fresh : Hold zeroRows zeroCopies (freshLinks .frames) (freshLinks .levels)

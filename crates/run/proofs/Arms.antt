@@ -8,19 +8,20 @@ use native.Mathlib.Omega.{arith}
 use native.Mathlib.Numerals.{add-one}
 use borrow.Author.Tests.{le-ltb, ltb-false, eq-eqb, eqb-false}
 use lib.Dec.{ltb, leb, eqb, leb·suc-suc}
-use lib.ListN.{getD, set}
-use lib.Seq.{sets, set-getD}
+use lib.ListN.{getD, set, take, drop}
+use lib.Seq.{sets}
 use Rattle.plain.specs.Answer.{Answer, refuses, gives}
 use Rattle.plain.specs.Choice.{pick, decided}
 use Rattle.numbers.specs.Bytes.{numberAt, bytesOf}
-use Rattle.links.specs.Depths.{cellsDepth, returnsDepth, subroutinesDepth, exceptionsDepth}
-use Rattle.links.specs.Actions.{calledFrame}
+use Rattle.links.specs.Depths.{cellsDepth, returnsDepth, subroutinesDepth, exceptionsDepth, localsCount}
+use Rattle.links.specs.Actions.{calledFrame, withLocals, withCells}
 use Rattle.links.specs.Linked.{noFrame, noLevel, copyOfR, copyOfS, copyOfP}
 use Rattle.links.specs.declared.Frame.{Frame}
 use Rattle.links.specs.declared.Level.{Level}
 use Rattle.machine.specs.Codes.{entryAt, table, cyclesOf, codePAUSE, LINK, THROW, FETCH, STORE}
 use Rattle.machine.specs.Reach.{barOf, isForeign}
 use Rattle.machine.specs.Memory.{size, placeOf}
+use Rattle.machine.specs.View.{bytesOfCells, overwritten}
 use Rattle.machine.specs.Rows.{nothing, aReturnCell, aPlace, aDivisor, Lack-discrete, rowOf}
 use Rattle.machine.specs.Step.{Stepped, refused, done, costOf, carried}
 use Rattle.machine.specs.Laws.Prices.{by-code}
@@ -28,14 +29,14 @@ use Rattle.machine.specs.declared.Machine.{Machine}
 use Rattle.machine.specs.declared.Reach.{Reach}
 use Rattle.machine.specs.declared.Width.{Width}
 use Rattle.machine.specs.declared.Place.{Place}
-use Rattle.machine.specs.declared.Place.the-variants.{Memory, Local, Cell, Nowhere}
+use Rattle.machine.specs.declared.Place.the-variants.{Memory, View, Nowhere}
 use Rattle.reach.specs.Spots.{widthOf, spotOf}
 use Rattle.run.specs.Accesses.{reachOf}
 use Rattle.run.specs.Answers.{stepBy}
 use Rattle.run.specs.Machines.{inReach, linksOf}
 use Rattle.run.specs.Promises.{CarriesOut, Spells, Unaltered}
 use Rattle.run.specs.Registers.{machineIn, movedTo, haltedBy}
-use Rattle.run.specs.Levels.{framesIn, levelsIn, Hold}
+use Rattle.run.specs.Levels.{framesIn, levelsIn, seen, Hold, HoldSeen}
 use Rattle.run.specs.Verdicts.{pushable, readable, callable, catchable, throwable, exitable, sAfterPop, eAfterDropOf, eAfterPop}
 use Rattle.run.specs.declared.Registers.{Registers}
 use Rattle.run.specs.declared.Stack.{Stack}
@@ -60,6 +61,17 @@ unfolding entryAt table
 store-spelled code (inl e) = record { known = rw e; names = rw e; asks = rw e }
 store-spelled code (inr (inl e)) = record { known = rw e; names = rw e; asks = rw e }
 store-spelled code (inr (inr e)) = record { known = rw e; names = rw e; asks = rw e }
+
+-- the whole of a cell is reached by the long ones alone
+pub long-fetch : (code : ℕ) → OneOf 0x2D 0x2F 0x31 code → size (widthOf code) ≡ 4 → code ≡ 0x2D
+long-fetch code (inl e) h = e
+long-fetch code (inr (inl e)) h = let short : size (widthOf code) ≡ 2 = ap (λ (c : ℕ). size (widthOf c)) e in absurd (omega arith)
+long-fetch code (inr (inr e)) h = let short : size (widthOf code) ≡ 1 = ap (λ (c : ℕ). size (widthOf c)) e in absurd (omega arith)
+
+pub long-store : (code : ℕ) → OneOf 0x2E 0x30 0x32 code → size (widthOf code) ≡ 4 → code ≡ 0x2E
+long-store code (inl e) h = e
+long-store code (inr (inl e)) h = let short : size (widthOf code) ≡ 2 = ap (λ (c : ℕ). size (widthOf c)) e in absurd (omega arith)
+long-store code (inr (inr e)) h = let short : size (widthOf code) ≡ 1 = ap (λ (c : ℕ). size (widthOf c)) e in absurd (omega arith)
 
 throw-spelled : (code : ℕ) → code ≡ 0x0D → Spells code (LINK THROW) 1
 unfolding entryAt table
@@ -259,9 +271,13 @@ module _ {reach : Reach} {inTurns : Bool} {mem₀ : List ℕ} {m₀ : Machine} {
 
     abbrev pub fetchedBy : Width → Place → Stepped
     fetchedBy w (Memory a) = fetchedAs (numberAt (size w) mem a)
-    fetchedBy w (Local k) = fetchedAs (getD (getD frames (g .s) noFrame .locals) k 0)
-    fetchedBy w (Cell k) = fetchedAs (getD (getD levels (g .e) noLevel .cells) k 0)
+    fetchedBy w (View a) = fetchedAs (numberAt (size w) (bytesOfCells (seen frames levels (g .s) (g .e))) a)
     fetchedBy w Nowhere = refused 12
+
+    -- the whole of a cell is four bytes
+    pub fetched-whole : (w : Width) (a : ℕ) → size w ≡ 4 → {value : ℕ} → value ≡ numberAt 4 (bytesOfCells (seen frames levels (g .s) (g .e))) a →
+        fetchedBy w (View a) ≡ fetchedAs value
+    fetched-whole w a long is = ap (λ (n : ℕ). fetchedAs (numberAt n (bytesOfCells (seen frames levels (g .s) (g .e))) a)) long ∙ ap fetchedAs (sym is)
 
     -- where there is a cell, one put in its place leaves the depth
     depth : ltb (g .p) 1 ≡ false → g .p - 1 + 1 ≡ g .p
@@ -285,42 +301,37 @@ module _ {reach : Reach} {inTurns : Bool} {mem₀ : List ℕ} {m₀ : Machine} {
         go : (a : Bool) → ltb (g .p) 1 ≡ a → (place : Place) → placeOf (widthOf code) (getD cells (g .p - 1) 0) ≡ place →
             carried (inReach reach code operand next) mem here ≡ stepBy (reachOf reach 1 (widthOf code) cells (g .p)) (fetchedBy (widthOf code))
         go true few (Memory a) at = rw (e .names, at, e .known, e .asks, few)
-        go true few (Local k) at = rw (e .names, at, e .known, e .asks, few)
-        go true few (Cell k) at = rw (e .names, at, e .known, e .asks, few)
+        go true few (View a) at = rw (e .names, at, e .known, e .asks, few)
         go true few Nowhere at = rw (e .names, at, e .known, e .asks, few)
         go false few (Memory a) at =
             rw (e .names, at, e .known, e .asks, few, full few, depth few, paid)
             (last-check (isForeign (barOf reach a (size (widthOf code)))) 17 (Memory a) (fetchedBy (widthOf code)))
-        go false few (Local k) at = rw (e .names, at, e .known, e .asks, few, full few, depth few, paid)
-        go false few (Cell k) at = rw (e .names, at, e .known, e .asks, few, full few, depth few, paid)
+        go false few (View a) at = rw (e .names, at, e .known, e .asks, few, full few, depth few, paid)
         go false few Nowhere at = rw (e .names, at, e .known, e .asks, few, room (g .p - 1) (omega arith))
 
-    -- STORE: the value under the address goes to memory, to a local of level S or to a cell of level E
+    -- STORE: the value under the address goes to memory or to the cells in view
     abbrev pub lowered : Registers
     lowered = movedTo g (g .p - 2) (g .r) (g .s) (g .e) next (g .flag)
 
     abbrev pub storedBy : Width → Place → Stepped
     storedBy w (Memory a) = done (sets mem a (bytesOf (size w) (getD cells (g .p - 2) 0))) (machineIn cells returns frames levels lowered) (cyclesOf code)
-    storedBy w (Local k) =
-        let frame = getD frames (g .s) noFrame in
-        let after : Frame = record { locals = set (frame .locals) k (getD cells (g .p - 2) 0); r = frame .r; address = frame .address } in
-        done mem (machineIn cells returns (set frames (g .s) after) levels lowered) (cyclesOf code)
-    storedBy w (Cell k) =
-        let level = getD levels (g .e) noLevel in
-        let after : Level = record { cells = set (level .cells) k (getD cells (g .p - 2) 0); s = level .s; p = level .p; address = level .address } in
-        done mem (machineIn cells returns frames (set levels (g .e) after) lowered) (cyclesOf code)
+    storedBy w (View a) =
+        let after = overwritten (seen frames levels (g .s) (g .e)) a (bytesOf (size w) (getD cells (g .p - 2) 0)) in
+        done mem
+        (machineIn cells returns (set frames (g .s) (withLocals (take localsCount after) (getD frames (g .s) noFrame)))
+        (set levels (g .e) (withCells (drop localsCount after) (getD levels (g .e) noLevel))) lowered)
+        (cyclesOf code)
     storedBy w Nowhere = refused 12
 
     pub written-there : (w : Width) (a : ℕ) {mem′ : List ℕ} → mem′ ≡ sets mem a (bytesOf (size w) (getD cells (g .p - 2) 0)) →
         storedBy w (Memory a) ≡ done mem′ (machineIn cells returns frames levels lowered) (cyclesOf code)
     written-there w a e = ap (λ (l : List ℕ). done l (machineIn cells returns frames levels lowered) (cyclesOf code)) (sym e)
 
-    -- a store to a local leaves the exception cells as they are, and the other way round
-    same-level : set levels (g .e) (getD levels (g .e) noLevel) ≡ levels
-    same-level = set-getD levels (g .e) noLevel
-
-    same-frame : set frames (g .s) (getD frames (g .s) noFrame) ≡ frames
-    same-frame = set-getD frames (g .s) noFrame
+    pub kept-whole : (w : Width) (a value : ℕ) → size w ≡ 4 → {rows : List (List ℕ)} {copies : List ℕ} →
+        HoldSeen rows copies frames levels (g .s) (g .e) (overwritten (seen frames levels (g .s) (g .e)) a (bytesOf 4 value)) →
+        HoldSeen rows copies frames levels (g .s) (g .e) (overwritten (seen frames levels (g .s) (g .e)) a (bytesOf (size w) value))
+    kept-whole w a value long {rows} {copies} held =
+        subst⁻¹ (λ (n : ℕ). HoldSeen rows copies frames levels (g .s) (g .e) (overwritten (seen frames levels (g .s) (g .e)) a (bytesOf n value))) long held
 
     pub store-acts : OneOf 0x2E 0x30 0x32 code → Does (reachOf reach 2 (widthOf code) cells (g .p)) (storedBy (widthOf code))
     unfolding carried rowOf reachOf spotOf barOf
@@ -341,14 +352,12 @@ module _ {reach : Reach} {inTurns : Bool} {mem₀ : List ℕ} {m₀ : Machine} {
         go : (a : Bool) → ltb (g .p) 2 ≡ a → (place : Place) → placeOf (widthOf code) (getD cells (g .p - 1) 0) ≡ place →
             carried (inReach reach code operand next) mem here ≡ stepBy (reachOf reach 2 (widthOf code) cells (g .p)) (storedBy (widthOf code))
         go true few (Memory a) at = rw (e .names, at, e .known, e .asks, few)
-        go true few (Local k) at = rw (e .names, at, e .known, e .asks, few)
-        go true few (Cell k) at = rw (e .names, at, e .known, e .asks, few)
+        go true few (View a) at = rw (e .names, at, e .known, e .asks, few)
         go true few Nowhere at = rw (e .names, at, e .known, e .asks, few)
         go false few (Memory a) at =
             rw (e .names, at, e .known, e .asks, few, full-two, depth-two, paid)
             (last-check (isForeign (barOf reach a (size (widthOf code)))) 17 (Memory a) (storedBy (widthOf code)))
-        go false few (Local k) at = rw (e .names, at, e .known, e .asks, few, full-two, depth-two, paid, same-level)
-        go false few (Cell k) at = rw (e .names, at, e .known, e .asks, few, full-two, depth-two, paid, same-frame)
+        go false few (View a) at = rw (e .names, at, e .known, e .asks, few, full-two, depth-two, paid)
         go false few Nowhere at = rw (e .names, at, e .known, e .asks, few, full-two)
 
     -- every other instruction, by what it promises

@@ -1,10 +1,12 @@
 -- A list that is filled from its front, and one whose front is copied.
-use mathlib.Core.Path.{_≡_, refl, ap, sym, _∙_}
+use mathlib.Core.Path.{_≡_, refl, ap, sym, _∙_, subst}
 use mathlib.Core.List.{List, [], _∷_, _++_, map}
 use Prim.Native.Nat.{ℕ, suc, _+_, _<_, _≤_}
 use native.Mathlib.Omega.{arith}
 use lib.ListN.{getD, set, take, drop, length, length-set, length-map}
 use lib.Seq.{set-at, append-snoc, take-suc, take-suc-set, take-all, drop-cons, length-take-le}
+use Rattle.plain.specs.All.{All}
+use Rattle.plain.specs.Laws.All.{all-append}
 
 -- an array of structs has as many elements as the list of their values
 pub length-mapped : (X Y : Type 0) (f : X → Y) (l : List X) (n : ℕ) → length (map f l) ≡ n → length l ≡ n
@@ -27,6 +29,13 @@ module _ {A : Type 0} where
       ap (λ (l : List A). set l n x) e ∙ ap (λ (l : List A). set (take n from ++ l) n x) (drop-cons old n d room) ∙
       set-at (take n from) (getD old n d) rest x n (length-take-le n from (omega arith)) ∙ sym (append-snoc (take n from) x rest) ∙
       ap (λ (l : List A). l ++ rest) (sym (take-suc from n d more)) ∙ ap (λ (k : ℕ). take k from ++ drop k old) one
+
+  -- what holds of the elements taken, and of one more
+  pub taken-next : (P : A → Type 0) (from : List A) (n : ℕ) (d : A) → n < length from → All P (take n from) → P (getD from n d) → All P (take (n + 1) from)
+  taken-next P from n d more held one =
+      let next : suc n ≡ n + 1 = omega arith in
+      subst (λ (k : ℕ). All P (take k from)) next
+      (subst (All P) (sym (take-suc from n d more)) (all-append P (take n from) (getD from n d ∷ []) held (one, tt)))
 
   module _ (count : ℕ) (whole : List A) where
     pub filled-none : (made : List A) → length whole ≡ count → length made ≡ count → Filled count whole made 0

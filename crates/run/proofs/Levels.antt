@@ -1,23 +1,40 @@
 -- Levels in rows: what a store to a row or to the copies makes of them.
 use mathlib.Core.Logic.{_≢_}
-use mathlib.Core.Path.{_≡_, refl, ap, sym, _∙_}
-use mathlib.Core.List.{List, []}
-use Prim.Native.Nat.{ℕ, suc, _+_, _<_}
+use mathlib.Core.Path.{_≡_, refl, ap, sym, _∙_, subst⁻¹}
+use mathlib.Core.List.{List, [], _∷_}
+use Prim.Native.Nat.{ℕ, zero, suc, _+_, _<_}
 use native.Mathlib.Omega.{arith}
 use lib.ListN.{getD, set, take, length, length-set, replicate}
-use lib.Seq.{getD-set-same, getD-set-other, getD-take, take-set-lt, take-set-le}
-use Rattle.links.specs.Actions.{noLocals, calledFrame}
+use lib.Seq.{getD-set-same, getD-set-other, take-set-lt, take-set-le}
+use Rattle.links.specs.Actions.{noLocals, calledFrame, withLocals, withCells}
 use Rattle.links.specs.Depths.{framesCount, levelsCount, localsCount, levelCells, subroutinesDepth, exceptionsDepth}
+use Rattle.links.specs.Fits.{CellFits}
 use Rattle.links.specs.Linked.{noFrame, noLevel, copyOfR, copyOfS, copyOfP}
 use Rattle.links.specs.declared.Frame.{Frame}
 use Rattle.links.specs.declared.Level.{Level}
-use Rattle.plain.specs.Laws.All.{all-at, all-set}
-use Rattle.run.specs.Levels.{frameOf, levelOf, copiesRoom, framesIn, levelsIn, withLocal, withCell, Laid, Hold}
+use Rattle.plain.specs.All.{All}
+use Rattle.plain.specs.Laws.All.{all-at, all-set, all-replicate}
+use Rattle.run.specs.Levels.{frameOf, levelOf, copiesRoom, framesIn, levelsIn, Laid, Hold}
 use Rattle.run.proofs.Tabled.{length-tabulated, tabulated-at, tabulated-same, tabulated-set}
 
 -- a row as wide as a level and its address
 abbrev Wide : List ℕ → Type 0
 Wide row = length row ≡ suc localsCount
+
+-- the locals and the cells at a row's front are cells
+abbrev LocalsFit : List ℕ → Type 0
+LocalsFit row = All CellFits (take localsCount row)
+
+abbrev CellsFit : List ℕ → Type 0
+CellsFit row = All CellFits (take levelCells row)
+
+-- what is read after a store is what was stored, or what was there
+either : {A : Type 0} (P : A → Type 0) (l : List A) (n : ℕ) (x : A) (i : ℕ) (d : A) → P x → P (getD l i d) → P (getD (set l n x) i d)
+either P [] n x i d new old = old
+either P (y ∷ ys) zero x zero d new old = new
+either P (y ∷ ys) zero x (suc i) d new old = old
+either P (y ∷ ys) (suc n) x zero d new old = old
+either P (y ∷ ys) (suc n) x (suc i) d new old = either P ys n x i d new old
 
 -- two lists that agree at a place
 abbrev Alike : {A : Type 0} → List A → List A → A → ℕ → Type 0
@@ -91,49 +108,61 @@ module _ (rows : List (List ℕ)) where
   pub read-throw : (e : ℕ) → e < levelsCount → (copies : List ℕ) → getD (getD rows (framesCount + e) []) localsCount 0 ≡ getD (levelsIn rows copies) e noLevel .address
   read-throw e h copies = sym (ap (λ (l : Level). l .address) (level-there rows copies e h))
 
-  pub read-local : (s k : ℕ) → s < framesCount → k < localsCount → (copies : List ℕ) →
-      getD (getD rows s []) k 0 ≡ getD (getD (framesIn rows copies) s noFrame .locals) k 0
-  read-local s k h within copies =
-      sym (ap (λ (f : Frame). getD (f .locals) k 0) (frame-there rows copies s h) ∙ getD-take localsCount (getD rows s []) k 0 within)
-
-  pub read-cell : (e k : ℕ) → e < levelsCount → k < levelCells → (copies : List ℕ) →
-      getD (getD rows (framesCount + e) []) k 0 ≡ getD (getD (levelsIn rows copies) e noLevel .cells) k 0
-  read-cell e k h within copies =
-      sym (ap (λ (l : Level). getD (l .cells) k 0) (level-there rows copies e h) ∙ getD-take levelCells (getD rows (framesCount + e) []) k 0 within)
-
 -- the levels after a store
 module _ (rows : List (List ℕ)) (copies : List ℕ) (laid : Laid rows copies) where
   -- every row is as wide as a level and its address
   pub wide-at : (n : ℕ) → n < framesCount + levelsCount → length (getD rows n []) ≡ suc localsCount
   wide-at n h = all-at Wide rows (laid .rows-wide) n [] (omega (arith, laid .rows-long))
 
-  with-row : (n : ℕ) (row : List ℕ) → length row ≡ suc localsCount → (copies′ : List ℕ) → length copies′ ≡ copiesRoom → Laid (set rows n row) copies′
-  with-row n row wide copies′ long =
-      record { rows-long = length-set rows n row ∙ laid .rows-long; rows-wide = all-set Wide rows (laid .rows-wide) n row wide; copies-long = long }
+  with-frame : (n : ℕ) (row : List ℕ) → n < framesCount → length row ≡ suc localsCount → LocalsFit row → (copies′ : List ℕ) → length copies′ ≡ copiesRoom →
+      Laid (set rows n row) copies′
+  with-frame n row h wide fit copies′ long =
+      record {
+        rows-long = length-set rows n row ∙ laid .rows-long;
+        rows-wide = all-set Wide rows (laid .rows-wide) n row wide;
+        copies-long = long;
+        locals-fit = λ s less. either LocalsFit rows n row s [] fit (laid .locals-fit s less);
+        cells-fit = λ e less. subst⁻¹ CellsFit (getD-set-other rows n (framesCount + e) row [] (λ same. omega arith)) (laid .cells-fit e less);
+      }
+
+  with-level : (n : ℕ) (row : List ℕ) → length row ≡ suc localsCount → CellsFit row → (copies′ : List ℕ) → length copies′ ≡ copiesRoom →
+      Laid (set rows (framesCount + n) row) copies′
+  with-level n row wide fit copies′ long =
+      record {
+        rows-long = length-set rows (framesCount + n) row ∙ laid .rows-long;
+        rows-wide = all-set Wide rows (laid .rows-wide) (framesCount + n) row wide;
+        copies-long = long;
+        locals-fit = λ s less. subst⁻¹ LocalsFit (getD-set-other rows (framesCount + n) s row [] (λ same. omega arith)) (laid .locals-fit s less);
+        cells-fit = λ e less. either CellsFit rows (framesCount + n) row (framesCount + e) [] fit (laid .cells-fit e less);
+      }
 
   -- to one number of a row
-  pub local-stored : (s k value : ℕ) → s < framesCount → k < localsCount →
-      Hold (set rows s (set (getD rows s []) k value)) copies (set (framesIn rows copies) s (withLocal (getD (framesIn rows copies) s noFrame) k value)) (levelsIn rows copies)
-  local-stored s k value h within =
+  pub local-stored : (s k value : ℕ) → s < framesCount → k < localsCount → CellFits value →
+      let frame = getD (framesIn rows copies) s noFrame in
+      Hold (set rows s (set (getD rows s []) k value)) copies (set (framesIn rows copies) s (withLocals (set (frame .locals) k value) frame)) (levelsIn rows copies)
+  local-stored s k value h within fits =
       let old = getD rows s [] in
       let row = set old k value in
       let there : getD (set rows s row) s [] ≡ row = getD-set-same rows s row [] (omega (arith, laid .rows-long)) in
       let front : take localsCount row ≡ set (take localsCount old) k value = take-set-lt localsCount old k value within in
       let end : getD row localsCount 0 ≡ getD old localsCount 0 = getD-set-other old k localsCount value 0 (λ e. omega arith) in
       record {
-        laid = with-row s row (length-set old k value ∙ wide-at s (omega arith)) copies (laid .copies-long);
+        laid =
+            with-frame s row h (length-set old k value ∙ wide-at s (omega arith))
+            (subst⁻¹ (All CellFits) front (all-set CellFits (take localsCount old) (laid .locals-fit s h) k value fits)) copies (laid .copies-long);
         frames-are =
-            frame-anew rows copies (set rows s row) copies s (withLocal (getD (framesIn rows copies) s noFrame) k value) h
+            frame-anew rows copies (set rows s row) copies s (withLocals (set (getD (framesIn rows copies) s noFrame .locals) k value) (getD (framesIn rows copies) s noFrame)) h
             (rw (frame-there rows copies s h, there, front, end)) (λ i less ne. getD-set-other rows s i row [] ne) (λ i less ne. refl);
         levels-are =
             levels-same rows copies (set rows s row) copies (λ i less. getD-set-other rows s (framesCount + i) row [] (λ e. omega arith)) (λ i less. refl)
             (λ i less. refl);
       }
 
-  pub cell-stored : (e k value : ℕ) → e < levelsCount → k < levelCells →
+  pub cell-stored : (e k value : ℕ) → e < levelsCount → k < levelCells → CellFits value →
+      let level = getD (levelsIn rows copies) e noLevel in
       Hold (set rows (framesCount + e) (set (getD rows (framesCount + e) []) k value)) copies (framesIn rows copies)
-      (set (levelsIn rows copies) e (withCell (getD (levelsIn rows copies) e noLevel) k value))
-  cell-stored e k value h within =
+      (set (levelsIn rows copies) e (withCells (set (level .cells) k value) level))
+  cell-stored e k value h within fits =
       let at = framesCount + e in
       let old = getD rows at [] in
       let row = set old k value in
@@ -141,22 +170,24 @@ module _ (rows : List (List ℕ)) (copies : List ℕ) (laid : Laid rows copies) 
       let front : take levelCells row ≡ set (take levelCells old) k value = take-set-lt levelCells old k value within in
       let end : getD row localsCount 0 ≡ getD old localsCount 0 = getD-set-other old k localsCount value 0 (λ e. omega arith) in
       record {
-        laid = with-row at row (length-set old k value ∙ wide-at at (omega arith)) copies (laid .copies-long);
+        laid =
+            with-level e row (length-set old k value ∙ wide-at at (omega arith))
+            (subst⁻¹ (All CellFits) front (all-set CellFits (take levelCells old) (laid .cells-fit e h) k value fits)) copies (laid .copies-long);
         frames-are = frames-same rows copies (set rows at row) copies (λ i less. getD-set-other rows at i row [] (λ e. omega arith)) (λ i less. refl);
         levels-are =
-            level-anew rows copies (set rows at row) copies e (withCell (getD (levelsIn rows copies) e noLevel) k value) h
+            level-anew rows copies (set rows at row) copies e (withCells (set (getD (levelsIn rows copies) e noLevel .cells) k value) (getD (levelsIn rows copies) e noLevel)) h
             (rw (level-there rows copies e h, there, front, end)) (λ i less ne. getD-set-other rows at (framesCount + i) row [] (λ e. ne (omega arith)))
             (λ i less ne. refl) (λ i less ne. refl);
       }
 
   -- of a whole row, with its copies
-  pub frame-put : (n : ℕ) (row : List ℕ) (r : ℕ) → n < framesCount → length row ≡ suc localsCount →
+  pub frame-put : (n : ℕ) (row : List ℕ) (r : ℕ) → n < framesCount → length row ≡ suc localsCount → LocalsFit row →
       Hold (set rows n row) (set copies n r) (set (framesIn rows copies) n (record { locals = take localsCount row; r = r; address = getD row localsCount 0 })) (levelsIn rows copies)
-  frame-put n row r h wide =
+  frame-put n row r h wide fit =
       let there : getD (set rows n row) n [] ≡ row = getD-set-same rows n row [] (omega (arith, laid .rows-long)) in
       let copied : getD (set copies n r) n 0 ≡ r = getD-set-same copies n r 0 (omega (arith, laid .copies-long)) in
       record {
-        laid = with-row n row wide (set copies n r) (length-set copies n r ∙ laid .copies-long);
+        laid = with-frame n row h wide fit (set copies n r) (length-set copies n r ∙ laid .copies-long);
         frames-are =
             frame-anew rows copies (set rows n row) (set copies n r) n (record { locals = take localsCount row; r = r; address = getD row localsCount 0 }) h
             (rw (there, copied)) (λ i less ne. getD-set-other rows n i row [] ne) (λ i less ne. getD-set-other copies n i r 0 ne);
@@ -166,10 +197,10 @@ module _ (rows : List (List ℕ)) (copies : List ℕ) (laid : Laid rows copies) 
             (λ i less. getD-set-other copies n (framesCount + levelsCount + i) r 0 (λ e. omega arith));
       }
 
-  pub level-put : (n : ℕ) (row : List ℕ) (s p : ℕ) → n < levelsCount → length row ≡ suc localsCount →
+  pub level-put : (n : ℕ) (row : List ℕ) (s p : ℕ) → n < levelsCount → length row ≡ suc localsCount → CellsFit row →
       Hold (set rows (framesCount + n) row) (set (set copies (framesCount + n) s) (framesCount + levelsCount + n) p) (framesIn rows copies)
       (set (levelsIn rows copies) n (record { cells = take levelCells row; s = s; p = p; address = getD row localsCount 0 }))
-  level-put n row s p h wide =
+  level-put n row s p h wide fit =
       let at = framesCount + n in
       let beside = framesCount + levelsCount + n in
       let rows′ = set rows at row in
@@ -181,7 +212,7 @@ module _ (rows : List (List ℕ)) (copies : List ℕ) (laid : Laid rows copies) 
       let copied-s : getD copies′ at 0 ≡ s = getD-set-other mid beside at p 0 (λ e. omega arith) ∙ getD-set-same copies at s 0 (omega (arith, laid .copies-long)) in
       let other : (i : ℕ) → i ≢ at → i ≢ beside → getD copies′ i 0 ≡ getD copies i 0 = λ i a b. getD-set-other mid beside i p 0 b ∙ getD-set-other copies at i s 0 a in
       record {
-        laid = with-row at row wide copies′ (length-set mid beside p ∙ same-long);
+        laid = with-level n row wide fit copies′ (length-set mid beside p ∙ same-long);
         frames-are =
             frames-same rows copies rows′ copies′ (λ i less. getD-set-other rows at i row [] (λ e. omega arith)) (λ i less. other i (λ e. omega arith) (λ e. omega arith));
         levels-are =
@@ -196,7 +227,8 @@ module _ (rows : List (List ℕ)) (copies : List ℕ) (laid : Laid rows copies) 
       Hold (set rows (s + 1) (set (replicate (suc localsCount) 0) localsCount address)) (set copies (s + 1) r) (set (framesIn rows copies) (s + 1) (calledFrame r address))
       (levelsIn rows copies)
   unfolding noLocals
-  called-made s r address h = frame-put (s + 1) (set (replicate (suc localsCount) 0) localsCount address) r (omega arith) refl
+  called-made s r address h =
+      frame-put (s + 1) (set (replicate (suc localsCount) 0) localsCount address) r (omega arith) refl (all-replicate CellFits localsCount 0 (omega arith))
 
   -- a CATCH makes the level above, with the cells of the level below
   pub caught-made : (e s p address : ℕ) → e < exceptionsDepth →
@@ -216,7 +248,8 @@ module _ (rows : List (List ℕ)) (copies : List ℕ) (laid : Laid rows copies) 
       (record { cells = getD (levelsIn rows copies) e noLevel .cells; s = s; p = p; address = address }) =
       ap (λ (l : List ℕ). record { cells = l; s = s; p = p; address = getD row localsCount 0 }) held ∙
       ap (λ (a : ℕ). record { cells = getD (levelsIn rows copies) e noLevel .cells; s = s; p = p; address = a }) end in
-      let put = level-put (e + 1) row s p (omega arith) (length-set below localsCount address ∙ wide) in
+      let fit : CellsFit row = subst⁻¹ (All CellFits) (take-set-le levelCells below localsCount address (omega arith)) (laid .cells-fit e (omega arith)) in
+      let put = level-put (e + 1) row s p (omega arith) (length-set below localsCount address ∙ wide) fit in
       rw (up, beside)
       (record { laid = put .laid; frames-are = put .frames-are; levels-are = put .levels-are ∙ ap (λ (l : Level). set (levelsIn rows copies) (e + 1) l) made })
 

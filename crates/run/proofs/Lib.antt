@@ -24,6 +24,8 @@ mod Tabled
 mod Levels
 mod Filled
 mod Parted
+-- the cells in view
+mod Seen
 -- a whole machine in rows, and four of them
 mod Again
 mod Tasked

@@ -5,7 +5,9 @@ use Prim.Native.Nat.{ℕ, suc, _+_, _<_, _≤_}
 use native.Mathlib.Omega.{arith}
 use lib.ListN.{getD, set, take, drop, length, length-set, drop-of-length-le}
 use lib.Seq.{getD-set-same, set-set, take-set-le, take-all, take-at, length-take-le, length-front}
+use Rattle.plain.specs.All.{All}
 use Rattle.links.specs.Depths.{framesCount, levelsCount, localsCount, levelCells}
+use Rattle.links.specs.Fits.{CellFits}
 use Rattle.links.specs.Linked.{noFrame, noLevel}
 use Rattle.links.specs.declared.Frame.{Frame}
 use Rattle.links.specs.declared.Level.{Level}
@@ -56,10 +58,10 @@ module _ (rows : List (List ℕ)) (copies : List ℕ) (n : ℕ) where
 
   module _ (laid : Laid rows copies) where
     pub frame-written : (frame : Frame) (row : List ℕ) → n < framesCount → length (frame .locals) ≡ localsCount →
-        row ≡ take localsCount (frame .locals) ++ drop localsCount (getD rows n []) →
+        row ≡ take localsCount (frame .locals) ++ drop localsCount (getD rows n []) → All CellFits (take localsCount (frame .locals)) →
         Hold (set (set rows n row) n (set (getD (set rows n row) n []) localsCount (frame .address))) (set copies n (frame .r)) (set (framesIn rows copies) n frame)
         (levelsIn rows copies)
-    frame-written frame row h long is =
+    frame-written frame row h long is fit =
         let address = frame .address in
         let row′ = set row localsCount address in
         let now : Written localsCount (frame .locals) address row′ =
@@ -67,13 +69,13 @@ module _ (rows : List (List ℕ)) (copies : List ℕ) (n : ℕ) where
         let made : _≡_ {A = Frame} (record { locals = take localsCount row′; r = frame .r; address = getD row′ localsCount 0 }) frame = rw (now .front, now .end) in
         rw (set-in rows n row localsCount address (omega (arith, laid .rows-long)))
         (subst (λ (f : Frame). Hold (set rows n row′) (set copies n (frame .r)) (set (framesIn rows copies) n f) (levelsIn rows copies)) made
-        (frame-put rows copies laid n row′ (frame .r) h (now .wide)))
+        (frame-put rows copies laid n row′ (frame .r) h (now .wide) (subst (All CellFits) (take-all localsCount (frame .locals) (omega (arith, long)) ∙ sym (now .front)) fit)))
 
     pub level-written : (level : Level) (row : List ℕ) → n < levelsCount → length (level .cells) ≡ levelCells →
-        row ≡ take levelCells (level .cells) ++ drop levelCells (getD rows (framesCount + n) []) →
+        row ≡ take levelCells (level .cells) ++ drop levelCells (getD rows (framesCount + n) []) → All CellFits (take levelCells (level .cells)) →
         Hold (set (set rows (framesCount + n) row) (framesCount + n) (set (getD (set rows (framesCount + n) row) (framesCount + n) []) localsCount (level .address)))
         (set (set copies (framesCount + n) (level .s)) (framesCount + levelsCount + n) (level .p)) (framesIn rows copies) (set (levelsIn rows copies) n level)
-    level-written level row h long is =
+    level-written level row h long is fit =
         let at = framesCount + n in
         let address = level .address in
         let row′ = set row localsCount address in
@@ -84,4 +86,4 @@ module _ (rows : List (List ℕ)) (copies : List ℕ) (n : ℕ) where
         rw (set-in rows at row localsCount address (omega (arith, laid .rows-long)))
         (subst
         (λ (l : Level). Hold (set rows at row′) (set (set copies at (level .s)) (framesCount + levelsCount + n) (level .p)) (framesIn rows copies) (set (levelsIn rows copies) n l))
-        made (level-put rows copies laid n row′ (level .s) (level .p) h (now .wide)))
+        made (level-put rows copies laid n row′ (level .s) (level .p) h (now .wide) (subst (All CellFits) (take-all levelCells (level .cells) (omega (arith, long)) ∙ sym (now .front)) fit)))

@@ -2,26 +2,27 @@
 use mathlib.Core.Path.{_≡_, refl, subst}
 use mathlib.Core.Bool.{Bool, true, false}
 use mathlib.Core.List.{List}
-use Prim.Native.Nat.{ℕ, _+_, _-_, _/_, _%_, _≤_, _<_}
+use Prim.Native.Nat.{ℕ, _+_, _-_, _*_, _≤_, _<_}
 use native.Mathlib.Omega.{arith}
 use borrow.Author.Tests.{ltb-false, leb-true, leb-false, eqb-false}
 use lib.Dec.{ltb, leb, eqb}
 use lib.ListN.{getD}
 use Rattle.plain.specs.Answer.{Answer, refuses, gives}
 use Rattle.plain.specs.Choice.{pick, both}
-use Rattle.links.specs.Depths.{cellsDepth, returnsDepth, subroutinesDepth, exceptionsDepth, localsCount, levelCells}
+use Rattle.links.specs.Depths.{cellsDepth, returnsDepth, subroutinesDepth, exceptionsDepth}
 use Rattle.machine.specs.Limits.{memoryLength}
 use Rattle.machine.specs.Reach.{barOf, isForeign}
-use Rattle.machine.specs.Memory.{size, isLong, isListedCell, firstLocal, lastLocal, firstCell, lastCell, placeOf}
+use Rattle.machine.specs.Memory.{size, viewStart, viewEnd, placeOf}
 use Rattle.machine.specs.declared.Reach.{Reach}
 use Rattle.machine.specs.declared.Width.{Width}
 use Rattle.machine.specs.declared.Place.{Place}
-use Rattle.machine.specs.declared.Place.the-variants.{Memory, Local, Cell, Nowhere}
+use Rattle.machine.specs.declared.Place.the-variants.{Memory, View, Nowhere}
 use Rattle.reach.specs.Spots.{allowed, spotOf}
-use Rattle.reach.specs.declared.Spot.the-variants as spot
+use Rattle.reach.specs.declared.Spot.{Spot}
 use Rattle.reach.specs.declared.Reached.{Reached}
 use Rattle.reach.specs.declared.Reached.the-variants as reached
-use Rattle.run.specs.Accesses.{reachOf, OwnWithin}
+use Rattle.run.specs.Accesses.{reachOf, SpotWithin, ReachedWithin}
+use Rattle.run.specs.Levels.{viewCells}
 use Rattle.run.specs.Verdicts.{pushable, readable, callable, catchable, throwable, exitable}
 use Rattle.run.specs.declared.Throw.{Throw}
 use Rattle.run.specs.declared.Throw.the-variants.{Zero, Code}
@@ -85,32 +86,22 @@ code-room cells p {e} {n} h = go (ltb p 1) (eqb (getD cells (p - 1) 0) 0) (eqb e
     go false false true t h = apart cc
     go false false false t h = positive e (eqb-false e 0 t)
 
--- an access in memory lies wholly inside it, and a cell in view is one of the sixteen or one of the eight
+-- an access in memory lies wholly inside it, and one in view wholly in the cells' bytes
 Within : Width → Place → Type 0
 Within w (Memory a) = a + size w ≤ memoryLength
-Within w (Local k) = k < localsCount
-Within w (Cell k) = k < levelCells
+Within w (View a) = a + size w ≤ 4 * viewCells
 Within w Nowhere = Unit {0}
-
--- a cell that stands where an address is: the address is not past the last of its kind
-not-past : (l x y z : Bool) → both l (both x (both y z)) ≡ true → y ≡ true
-not-past true true true z e = refl
-not-past true true false z e = e
-not-past true false y z e = apart cc
-not-past false x y z e = apart cc
 
 place-within : (w : Width) (a : ℕ) → Within w (placeOf w a)
 unfolding placeOf Within
-place-within w a =
-    go (leb (a + size w) memoryLength) refl (both (isLong w) (isListedCell firstLocal lastLocal a)) refl (both (isLong w) (isListedCell firstCell lastCell a)) refl
+place-within w a = go (leb (a + size w) memoryLength) refl (leb viewStart a) refl (leb (a + size w) viewEnd) refl
   where
-    go : (b : Bool) → leb (a + size w) memoryLength ≡ b → (d : Bool) → both (isLong w) (isListedCell firstLocal lastLocal a) ≡ d →
-        (f : Bool) → both (isLong w) (isListedCell firstCell lastCell a) ≡ f →
-        Within w (pick b (Memory a) (pick d (Local ((a - firstLocal) / 4)) (pick f (Cell ((a - firstCell) / 4)) Nowhere)))
+    go : (b : Bool) → leb (a + size w) memoryLength ≡ b → (d : Bool) → leb viewStart a ≡ d → (f : Bool) → leb (a + size w) viewEnd ≡ f →
+        Within w (pick b (Memory a) (pick (both d f) (View (a - viewStart)) Nowhere))
     go true h d hd f hf = leb-true (a + size w) memoryLength h
-    go false h true hd f hf = omega (arith, leb-true a lastLocal (not-past (isLong w) (leb firstLocal a) (leb a lastLocal) (eqb (a % 4) 0) hd))
-    go false h false hd true hf = omega (arith, leb-true a lastCell (not-past (isLong w) (leb firstCell a) (leb a lastCell) (eqb (a % 4) 0) hf))
-    go false h false hd false hf = tt
+    go false h true hd true hf = omega (arith, leb-true viewStart a hd, leb-true (a + size w) viewEnd hf)
+    go false h true hd false hf = tt
+    go false h false hd f hf = tt
 
 -- what is allowed is where it is
 allowed-within : (reach : Reach) (w : Width) (place at : Place) → allowed reach w place ≡ gives at → Within w place → Within w at
@@ -118,8 +109,7 @@ allowed-within reach w (Memory a) at e h =
     let same = passed (isForeign (barOf reach a (size w))) 17 (gives (Memory a)) at e .1 in
     let is : Memory a ≡ at = cc in
     subst (Within w) is h
-allowed-within reach w (Local k) at e h = let is : Local k ≡ at = cc in subst (Within w) is h
-allowed-within reach w (Cell k) at e h = let is : Cell k ≡ at = cc in subst (Within w) is h
+allowed-within reach w (View a) at e h = let is : View a ≡ at = cc in subst (Within w) is h
 allowed-within reach w Nowhere at e h = apart cc
 
 module _ (reach : Reach) (w : Width) (cells : List ℕ) {takes p : ℕ} where
@@ -134,14 +124,10 @@ module _ (reach : Reach) (w : Width) (cells : List ℕ) {takes p : ℕ} where
   unfolding Within
   memory-room e = reaches e
 
-  pub local-room : {k : ℕ} → reachOf reach takes w cells p ≡ gives (Local k) → (takes ≤ p) × (k < localsCount)
+  pub view-room : {a : ℕ} → reachOf reach takes w cells p ≡ gives (View a) → (takes ≤ p) × (a + size w ≤ 4 * viewCells)
   unfolding Within
-  local-room e = reaches e
+  view-room e = reaches e
 
-  pub cell-room : {k : ℕ} → reachOf reach takes w cells p ≡ gives (Cell k) → (takes ≤ p) × (k < levelCells)
-  unfolding Within
-  cell-room e = reaches e
-
--- an access to the own part lies wholly in it
-pub own-room : (reach : Reach) (w : Width) {r : Reached} {a : ℕ} → OwnWithin reach w r → r ≡ reached.At (spot.Own a) → (reach .own ≤ a) × (a + size w ≤ reach .end)
-own-room reach w h e = subst (OwnWithin reach w) e h
+-- what is told apart, where it is known what it is
+pub spot-within : (reach : Reach) (w : Width) {r : Reached} {at : Spot} → ReachedWithin reach w r → r ≡ reached.At at → SpotWithin reach w at
+spot-within reach w h e = subst (ReachedWithin reach w) e h

@@ -1,10 +1,13 @@
 -- A machine as the loop has it: a row of numbers for each level, since no array of structs can be lent.
 use mathlib.Core.Path.{_≡_}
-use mathlib.Core.List.{List, [], _∷_}
+use mathlib.Core.List.{List, [], _∷_, _++_}
 use Prim.Native.Nat.{ℕ, zero, suc, _+_, _<_}
-use lib.ListN.{getD, set, take, length}
+use lib.ListN.{getD, set, take, drop, length}
 use Rattle.plain.specs.All.{All}
+use Rattle.links.specs.Actions.{withLocals, withCells}
 use Rattle.links.specs.Depths.{framesCount, levelsCount, localsCount, levelCells}
+use Rattle.links.specs.Fits.{CellFits}
+use Rattle.links.specs.Linked.{noFrame, noLevel}
 use Rattle.links.specs.declared.Frame.{Frame}
 use Rattle.links.specs.declared.Level.{Level}
 use Rattle.machine.specs.Limits.{tasksCount}
@@ -43,11 +46,13 @@ framesIn rows copies = tabulated framesCount (frameOf rows copies)
 unfoldable pub levelsIn : List (List ℕ) → List ℕ → List Level
 levelsIn rows copies = tabulated levelsCount (levelOf rows copies)
 
--- the lists are as long as the arrays that they stand for
+-- the lists are as long as the arrays that they stand for, and the cells of every level are numbers of 32 bits
 pub record Laid (rows : List (List ℕ)) (copies : List ℕ) : Type 0 where
   pub rows-long : length rows ≡ framesCount + levelsCount
   pub rows-wide : All (λ (row : List ℕ). length row ≡ suc localsCount) rows
   pub copies-long : length copies ≡ copiesRoom
+  pub locals-fit : (s : ℕ) → s < framesCount → All CellFits (take localsCount (getD rows s []))
+  pub cells-fit : (e : ℕ) → e < levelsCount → All CellFits (take levelCells (getD rows (framesCount + e) []))
 
 -- rows and copies that hold these levels
 pub record Hold (rows : List (List ℕ)) (copies : List ℕ) (frames : List Frame) (levels : List Level) : Type 0 where
@@ -55,12 +60,25 @@ pub record Hold (rows : List (List ℕ)) (copies : List ℕ) (frames : List Fram
   pub frames-are : framesIn rows copies ≡ frames
   pub levels-are : levelsIn rows copies ≡ levels
 
--- a level with one local or one cell anew
-abbrev pub withLocal : Frame → ℕ → ℕ → Frame
-withLocal frame k value = record { locals = set (frame .locals) k value; r = frame .r; address = frame .address }
+-- how many cells are in view
+abbrev pub viewCells : ℕ
+viewCells = localsCount + levelCells
 
-abbrev pub withCell : Level → ℕ → ℕ → Level
-withCell level k value = record { cells = set (level .cells) k value; s = level .s; p = level .p; address = level .address }
+-- the cells in view where S and E are these, and levels with others in view
+abbrev pub seen : List Frame → List Level → ℕ → ℕ → List ℕ
+seen frames levels s e = getD frames s noFrame .locals ++ getD levels e noLevel .cells
+
+abbrev pub HoldSeen : List (List ℕ) → List ℕ → List Frame → List Level → ℕ → ℕ → List ℕ → Type 0
+HoldSeen rows copies frames levels s e cells =
+    Hold rows copies (set frames s (withLocals (take localsCount cells) (getD frames s noFrame)))
+    (set levels e (withCells (drop localsCount cells) (getD levels e noLevel)))
+
+-- the same of rows, and of rows that come after them
+abbrev pub seenIn : List (List ℕ) → List ℕ → ℕ → ℕ → List ℕ
+seenIn rows copies s e = seen (framesIn rows copies) (levelsIn rows copies) s e
+
+abbrev pub Keep : List (List ℕ) → List (List ℕ) → List ℕ → ℕ → ℕ → List ℕ → Type 0
+Keep rows rows′ copies s e cells = HoldSeen rows′ copies (framesIn rows copies) (levelsIn rows copies) s e cells
 
 -- what a machine has beside its arrays
 abbrev pub pointersOf : Machine → Pointers

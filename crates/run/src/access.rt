@@ -8,12 +8,12 @@ ghost use Prim.Native.Nat.{_≤_};
 ghost use Rattle.links.specs.Depths.{cellsDepth};
 ghost use Rattle.machine.specs.Limits.{memoryLength};
 ghost use Rattle.reach.specs.Spots.{widthOf, spotOf, saysReached};
-ghost use Rattle.run.specs.Accesses.{reachOf, OwnWithin};
+ghost use Rattle.run.specs.Accesses.{reachOf, ReachedWithin};
 
 // No access has more than four bytes, and nearly every one is to shared bytes, which all are to a machine that is alone.
 fn spot_of(reach: Reach, code: u8, address: u32) -> Reached
     requires { ⌜ reach .shared ≤ memoryLength ⌝ }
-    ensures { λ r. ⌜ (saysReached r ≡ spotOf reach (widthOf code) address) × OwnWithin reach (widthOf code) r ⌝ }
+    ensures { λ r. ⌜ (saysReached r ≡ spotOf reach (widthOf code) address) × ReachedWithin reach (widthOf code) r ⌝ }
 {
     let at = address as usize;
     if at + 4 <= reach.shared {
@@ -31,7 +31,7 @@ pub(crate) fn reach(
     p: usize,
 ) -> Reached
     requires { ⌜ (1 ≤ takes) × ((p ≤ cellsDepth) × (reach .shared ≤ memoryLength)) ⌝ }
-    ensures { λ r. ⌜ (saysReached r ≡ reachOf reach takes (widthOf code) (now (cells .entry)) p) × OwnWithin reach (widthOf code) r ⌝ }
+    ensures { λ r. ⌜ (saysReached r ≡ reachOf reach takes (widthOf code) (now (cells .entry)) p) × ReachedWithin reach (widthOf code) r ⌝ }
 {
     if p < takes {
         return Reached::Refused(5);

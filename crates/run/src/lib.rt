@@ -18,6 +18,7 @@ mod tally;
 mod taskrows;
 mod ticks;
 mod turns;
+mod view;
 
 use machine::Cycles;
 use machine::Machine;

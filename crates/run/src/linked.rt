@@ -6,12 +6,14 @@ use links::Level;
 use links::Links;
 ghost use mathlib.Core.List.{List};
 ghost use mathlib.Core.Path.{_≡_};
-ghost use Prim.Native.Nat.{ℕ, _+_, _<_};
+ghost use Prim.Native.Nat.{ℕ, _+_, _*_, _<_};
 ghost use lib.ListN.{getD, set};
+ghost use Rattle.numbers.specs.Bytes.{numberAt, bytesOf};
 ghost use Rattle.links.specs.Actions.{calledFrame};
 ghost use Rattle.links.specs.Depths.{framesCount, levelsCount, localsCount, levelCells, subroutinesDepth, exceptionsDepth};
 ghost use Rattle.links.specs.Linked.{noFrame, noLevel, copyOfR, copyOfS, copyOfP};
-ghost use Rattle.run.specs.Levels.{framesIn, levelsIn, withLocal, withCell, Laid, Hold};
+ghost use Rattle.machine.specs.View.{bytesOfCells, overwritten};
+ghost use Rattle.run.specs.Levels.{framesIn, levelsIn, seenIn, Laid, Hold, Keep};
 
 // The rows of the subroutine levels, then those of the exception levels.
 pub(crate) const ROWS: usize = Links::FRAMES + Links::LEVELS;
@@ -57,30 +59,31 @@ pub(crate) fn throw_address(rows: &[[u32; ROW]; ROWS], e: usize) -> u32
     rows[Links::FRAMES + e][Frame::LOCALS]
 }
 
+// A cell is four bytes in view.
 pub(crate) fn local(rows: &[[u32; ROW]; ROWS], s: usize, k: usize) -> u32
     requires { ⌜ (s < framesCount) × (k < localsCount) ⌝ }
-    ensures { λ r. ⌜ ((copies : List ℕ) → r ≡ getD (getD (framesIn (now (rows .entry)) copies) s noFrame .locals) k 0) ⌝ }
+    ensures { λ r. ⌜ ((copies : List ℕ) (e : ℕ) → e < levelsCount → Laid (now (rows .entry)) copies → r ≡ numberAt 4 (bytesOfCells (seenIn (now (rows .entry)) copies s e)) (4 * k)) ⌝ }
 {
     rows[s][k]
 }
 
 pub(crate) fn cell(rows: &[[u32; ROW]; ROWS], e: usize, k: usize) -> u32
     requires { ⌜ (e < levelsCount) × (k < levelCells) ⌝ }
-    ensures { λ r. ⌜ ((copies : List ℕ) → r ≡ getD (getD (levelsIn (now (rows .entry)) copies) e noLevel .cells) k 0) ⌝ }
+    ensures { λ r. ⌜ ((copies : List ℕ) (s : ℕ) → s < framesCount → Laid (now (rows .entry)) copies → r ≡ numberAt 4 (bytesOfCells (seenIn (now (rows .entry)) copies s e)) (4 * (localsCount + k))) ⌝ }
 {
     rows[Links::FRAMES + e][k]
 }
 
 pub(crate) fn set_local(rows: &mut [[u32; ROW]; ROWS], s: usize, k: usize, value: u32)
     requires { ⌜ (s < framesCount) × (k < localsCount) ⌝ }
-    ensures { λ _. ⌜ ((copies : List ℕ) → Laid (now (rows .entry)) copies → Hold (now (rows .exit)) copies (set (framesIn (now (rows .entry)) copies) s (withLocal (getD (framesIn (now (rows .entry)) copies) s noFrame) k value)) (levelsIn (now (rows .entry)) copies)) ⌝ }
+    ensures { λ _. ⌜ ((copies : List ℕ) (e : ℕ) → e < levelsCount → Laid (now (rows .entry)) copies → Keep (now (rows .entry)) (now (rows .exit)) copies s e (overwritten (seenIn (now (rows .entry)) copies s e) (4 * k) (bytesOf 4 value))) ⌝ }
 {
     rows[s][k] = value;
 }
 
 pub(crate) fn set_cell(rows: &mut [[u32; ROW]; ROWS], e: usize, k: usize, value: u32)
     requires { ⌜ (e < levelsCount) × (k < levelCells) ⌝ }
-    ensures { λ _. ⌜ ((copies : List ℕ) → Laid (now (rows .entry)) copies → Hold (now (rows .exit)) copies (framesIn (now (rows .entry)) copies) (set (levelsIn (now (rows .entry)) copies) e (withCell (getD (levelsIn (now (rows .entry)) copies) e noLevel) k value))) ⌝ }
+    ensures { λ _. ⌜ ((copies : List ℕ) (s : ℕ) → s < framesCount → Laid (now (rows .entry)) copies → Keep (now (rows .entry)) (now (rows .exit)) copies s e (overwritten (seenIn (now (rows .entry)) copies s e) (4 * (localsCount + k)) (bytesOf 4 value))) ⌝ }
 {
     rows[Links::FRAMES + e][k] = value;
 }

@@ -10,14 +10,16 @@ ghost use mathlib.Core.List.{_++_};
 ghost use mathlib.Core.Path.{_≡_};
 ghost use Prim.Native.Nat.{_<_, _≤_};
 ghost use lib.ListN.{getD, set, length, take, drop};
+ghost use Rattle.plain.specs.All.{All};
 ghost use Rattle.links.specs.Depths.{framesCount, levelsCount};
+ghost use Rattle.links.specs.Fits.{CellFits};
 ghost use Rattle.links.specs.Linked.{noFrame, noLevel};
 ghost use Rattle.run.specs.Levels.{framesIn, levelsIn, inRows, pointersOf, pointersIn, Laid, Hold};
 
 // So many numbers from the front of one list to the front of another.
 fn copy_front(from: &[u32], to: &mut [u32], count: usize)
     requires { ⌜ (count ≤ length (now from)) × (count ≤ length (now to)) ⌝ }
-    ensures { λ _. ⌜ now (to .exit) ≡ take count (now (from .entry)) ++ drop count (now (to .entry)) ⌝ }
+    ensures { λ _. ⌜ (now (to .exit) ≡ take count (now (from .entry)) ++ drop count (now (to .entry))) × All CellFits (take count (now (from .entry))) ⌝ }
 {
     let mut n = 0;
     while n < count {

@@ -16,6 +16,7 @@ use crate::linked;
 use crate::memory;
 use crate::price;
 use crate::tally;
+use crate::view;
 use machine::Cycles;
 use machine::Machine;
 use machine::Reach;
@@ -187,7 +188,7 @@ pub(crate) fn rounds(
                     }
                 }
             }
-            // FETCH.L, FETCH.W, FETCH.B ( address -- value )
+            // FETCH.L, FETCH.W, FETCH.B ( address -- value ); only FETCH.L is to the whole of a cell
             0x2D | 0x2F | 0x31 => {
                 let reached = access::reach(cells, reach, 1, code, p);
                 let Reached::At(spot) = reached else {
@@ -208,16 +209,21 @@ pub(crate) fn rounds(
                     Spot::Local(k) => {
                         cells[p - 1] = linked::local(rows, s, k);
                         regs.counter = next;
-                        regs = tally::counted(regs, price::price(costs, code));
+                        regs = tally::counted(regs, price::price(costs, 0x2D));
                     }
                     Spot::Cell(k) => {
                         cells[p - 1] = linked::cell(rows, e, k);
+                        regs.counter = next;
+                        regs = tally::counted(regs, price::price(costs, 0x2D));
+                    }
+                    Spot::View(at) => {
+                        cells[p - 1] = view::read_in_view(rows, s, e, at, code);
                         regs.counter = next;
                         regs = tally::counted(regs, price::price(costs, code));
                     }
                 }
             }
-            // STORE.L, STORE.W, STORE.B ( value address -- )
+            // STORE.L, STORE.W, STORE.B ( value address -- ); only STORE.L is to the whole of a cell
             0x2E | 0x30 | 0x32 => {
                 let reached = access::reach(cells, reach, 2, code, p);
                 let Reached::At(spot) = reached else {
@@ -241,10 +247,16 @@ pub(crate) fn rounds(
                         linked::set_local(rows, s, k, cells[p - 2]);
                         regs.p = p - 2;
                         regs.counter = next;
-                        regs = tally::counted(regs, price::price(costs, code));
+                        regs = tally::counted(regs, price::price(costs, 0x2E));
                     }
                     Spot::Cell(k) => {
                         linked::set_cell(rows, e, k, cells[p - 2]);
+                        regs.p = p - 2;
+                        regs.counter = next;
+                        regs = tally::counted(regs, price::price(costs, 0x2E));
+                    }
+                    Spot::View(at) => {
+                        view::write_in_view(rows, s, e, at, code, cells[p - 2]);
                         regs.p = p - 2;
                         regs.counter = next;
                         regs = tally::counted(regs, price::price(costs, code));

@@ -4,16 +4,16 @@ use super::codes::Op;
 use super::reach::Reach;
 use super::state::{Machine, CATCH_CELLS, LOCALS, MEMORY};
 
-const FIRST_LOCAL: u32 = 0x10000;
-const FIRST_CATCH_CELL: u32 = 0x10040;
+/// The address of the first byte of the cells in view.
+pub const VIEW: usize = 0x10000;
+/// The cells in view are the locals of level S and then the cells of exception level E, four bytes each.
+pub const VIEW_BYTES: usize = 4 * (LOCALS + CATCH_CELLS);
 
-/// Where an access lands.
+/// Where the first byte of an access lies.
 pub enum Place {
     Memory(usize),
-    /// A local cell of level S.
-    Local(usize),
-    /// A cell of exception level E.
-    CatchCell(usize),
+    /// Counted from the first byte of the cells in view.
+    InView(usize),
 }
 
 impl Place {
@@ -21,7 +21,7 @@ impl Place {
     pub fn is_within(&self, reach: Reach, width: usize) -> bool {
         match *self {
             Place::Memory(start) => reach.allows(start..start + width),
-            Place::Local(_) | Place::CatchCell(_) => true,
+            Place::InView(_) => true,
         }
     }
 }
@@ -42,30 +42,46 @@ pub fn place(width: usize, address: u32) -> Option<Place> {
     if start + width <= MEMORY {
         return Some(Place::Memory(start));
     }
-    if width != 4 {
-        return None;
-    }
-    let listed = |first: u32, count: usize| (0..count).find(|&i| address == first + 4 * i as u32);
-    listed(FIRST_LOCAL, LOCALS)
-        .map(Place::Local)
-        .or_else(|| listed(FIRST_CATCH_CELL, CATCH_CELLS).map(Place::CatchCell))
+    let in_view = start.checked_sub(VIEW)?;
+    (in_view + width <= VIEW_BYTES).then_some(Place::InView(in_view))
 }
 
 pub fn load(machine: &Machine, memory: &[u8; MEMORY], width: usize, place: Place) -> u32 {
     match place {
-        Place::Memory(start) => {
-            memory[start..start + width].iter().fold(0, |value, &byte| value << 8 | u32::from(byte))
-        }
-        Place::Local(i) => machine.frames[machine.s].locals[i],
-        Place::CatchCell(i) => machine.catches[machine.e].cells[i],
+        Place::Memory(start) => number(&memory[start..start + width]),
+        Place::InView(start) => number(&bytes_in_view(machine)[start..start + width]),
     }
 }
 
 pub fn store(machine: &mut Machine, memory: &mut [u8; MEMORY], width: usize, place: Place, value: u32) {
     match place {
-        // The low bytes of the cell are the last of its four.
-        Place::Memory(start) => memory[start..start + width].copy_from_slice(&value.to_be_bytes()[4 - width..]),
-        Place::Local(i) => machine.frames[machine.s].locals[i] = value,
-        Place::CatchCell(i) => machine.catches[machine.e].cells[i] = value,
+        Place::Memory(start) => write_number(&mut memory[start..start + width], value),
+        Place::InView(start) => {
+            let mut bytes = bytes_in_view(machine);
+            write_number(&mut bytes[start..start + width], value);
+            set_bytes_in_view(machine, &bytes);
+        }
+    }
+}
+
+/// The number that some bytes spell, the highest first.
+fn number(bytes: &[u8]) -> u32 {
+    bytes.iter().fold(0, |value, &byte| value << 8 | u32::from(byte))
+}
+
+/// Spells as much of a value as there are bytes: its low bytes are the last of its four.
+fn write_number(bytes: &mut [u8], value: u32) {
+    bytes.copy_from_slice(&value.to_be_bytes()[4 - bytes.len()..]);
+}
+
+fn bytes_in_view(machine: &Machine) -> Vec<u8> {
+    let cells = machine.frames[machine.s].locals.iter().chain(&machine.catches[machine.e].cells);
+    cells.flat_map(|cell| cell.to_be_bytes()).collect()
+}
+
+fn set_bytes_in_view(machine: &mut Machine, bytes: &[u8]) {
+    let cells = machine.frames[machine.s].locals.iter_mut().chain(&mut machine.catches[machine.e].cells);
+    for (cell, bytes) in cells.zip(bytes.chunks(4)) {
+        *cell = number(bytes);
     }
 }

@@ -1,5 +1,6 @@
 //! Where one part of memory meets the next: what a task may still touch, and what it may not.
 
+use super::place::{VIEW, VIEW_BYTES};
 use super::reach::{Reach, PART, SHARED, TASKS};
 use super::state::{Answer, Machine, MEMORY};
 use super::step::step;
@@ -75,9 +76,15 @@ fn an_access_partly_outside_memory_is_12_also_in_anothers_part() {
 
 #[test]
 fn cells_are_every_tasks_own() {
-    for (number, address) in [(0, 0x10000), (1, 0x1003C), (2, 0x10040), (3, 0x1005C)] {
-        assert_eq!(access("FETCH.L", address, Reach::Task(number)), None);
-        assert_eq!(access("STORE.L", address, Reach::Task(number)), None);
+    for (source, width) in
+        [("FETCH.L", 4), ("STORE.L", 4), ("FETCH.W", 2), ("STORE.W", 2), ("FETCH.B", 1), ("STORE.B", 1)]
+    {
+        for number in 0..TASKS {
+            for address in VIEW - 4..VIEW + VIEW_BYTES + 4 {
+                let expected = if address >= VIEW && address + width <= VIEW + VIEW_BYTES { None } else { Some(12) };
+                assert_eq!(access(source, address, Reach::Task(number)), expected, "{source} at {address:X}");
+            }
+        }
     }
 }
 

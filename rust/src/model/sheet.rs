@@ -105,7 +105,8 @@ fn shift_and_extension_keep_the_sign() {
 
 #[test]
 fn edges_of_a_long_fetch() {
-    for (address, expected) in [(32_764, 0), (32_765, 12), (0x1005C, 0), (0x10060, 12), (0x10002, 12)] {
+    let edges = [(32_764, 0), (32_765, 12), (0x10002, 0), (0x1005C, 0), (0x1005D, 12), (0x10060, 12)];
+    for (address, expected) in edges {
         assert_eq!(answer("FETCH.L EXIT", &[address]), expected, "at {address:X}");
     }
 }

@@ -144,6 +144,19 @@ fn one_ready_task_runs_as_it_would_alone() {
     assert_eq!(four.tasks[0].machine, alone);
 }
 
+#[test]
+fn a_byte_of_a_cell_is_the_running_tasks_own() {
+    let sources = [1, 2, 3, 4].map(|byte| {
+        format!("LOAD.B {byte} LOAD.L $1003F STORE.B PAUSE LOAD.L $1003E FETCH.L LOAD.L $10040 FETCH.B EXIT")
+    });
+    let mut four = Four::new(sources.each_ref().map(String::as_str));
+    assert_eq!(four.run(1, 100).answer, Answer::Finished);
+    assert_eq!(four.kept(), [0; TASKS]);
+    for (number, task) in four.tasks.iter().enumerate() {
+        assert_eq!(task.machine.parameters[..2], [(number as u32 + 1) << 16, 0]);
+    }
+}
+
 /// What a run of endless tasks leaves, after something was done to them.
 fn answer_after(spoil: fn(&mut Four), quantum: u64, budget: u64) -> Answer {
     let mut four = Four::new([ENDLESS; TASKS]);

@@ -2,16 +2,19 @@
 use mathlib.Core.Path.{_≡_, refl, sym, subst, _∙_}
 use mathlib.Core.Bool.{Bool, true, false}
 use mathlib.Core.List.{List, [], _∷_}
-use Prim.Native.Nat.{ℕ, zero, suc, _+_, _-_, _*_, _^_, _<_, _≤_}
+use Prim.Native.Nat.{ℕ, suc, _+_, _-_, _*_, _^_, _<_, _≤_}
 use native.Mathlib.Nat.{lt-of-lt-of-le, pow-le-pow-right}
 use native.Mathlib.Omega.{arith}
 use lib.Dec.{T, eqb, leb, leb→le}
-use lib.ListN.{getD, length-set}
+use lib.ListN.{getD, length, length-append, length-drop}
+use lib.Seq.{length-take-le}
 use Rattle.plain.specs.Choice.{pick}
 use Rattle.plain.specs.All.{All}
-use Rattle.plain.specs.Laws.All.{all-read, all-set, all-sets}
+use Rattle.plain.specs.Laws.All.{all-read, all-sets, all-take, all-drop}
 use Rattle.numbers.specs.Bytes.{bytesOf}
-use Rattle.numbers.specs.Laws.Bytes.{Bytes, number-below, bytes-first}
+use Rattle.numbers.specs.Laws.Bytes.{Bytes, number-below}
+use Rattle.numbers.specs.Laws.Rewriting.{spelled-bytes, list-bytes, bytes-at}
+use Rattle.links.specs.Depths.{localsCount, levelCells}
 use Rattle.links.specs.Linked.{frameAt, levelAt}
 use Rattle.links.specs.Fits.{CellFits, LinksFit}
 use Rattle.links.specs.Laws.Carries.{ActFits, frame-in-view, level-in-view, act-fits}
@@ -23,14 +26,16 @@ use Rattle.machine.specs.Codes.{Shuffle, NOP, DROP, DUP, SWAP, OVER, NIP
 use Rattle.machine.specs.Reach.{alone}
 use Rattle.machine.specs.State.{Whole}
 use Rattle.machine.specs.Memory.{size, placeOf}
+use Rattle.machine.specs.View.{bytesOfCells, overwritten}
 use Rattle.machine.specs.Fetch.{Instruction, operandAt, instructionAt}
-use Rattle.machine.specs.Rows.{Row, top, second, topReturn, localsInView, cellsInView, cellsRow, throwRow, rowOf, linkRow, shuffled, target, twoRow, fetchRow, storeRow}
+use Rattle.machine.specs.Rows.{Row, top, second, topReturn, localsInView, cellsInView, inView, cellsRow, throwRow, rowOf, linkRow, shuffled, target, twoRow, fetchRow, storeRow}
 use Rattle.machine.specs.Step.{done, stepOf, rowAt}
 use Rattle.machine.specs.Run.{After, ended, runFrom, acceptable, runOf}
 use Rattle.machine.specs.Fits.{Fits, AllBytes, Exist}
 use Rattle.machine.specs.Laws.Tables.{Everywhere, at-code}
 use Rattle.machine.specs.Laws.Along.{along}
 use Rattle.machine.specs.Laws.Passed.{step-done}
+use Rattle.machine.specs.Laws.CellBytes.{overwritten-long, overwritten-fits}
 use Rattle.machine.specs.Laws.Kept.{Formed, allowed-at, step-kept}
 use Rattle.machine.specs.Laws.Accepted.{taken}
 use Rattle.machine.specs.declared.Machine.{Machine}
@@ -38,7 +43,7 @@ use Rattle.machine.specs.declared.Reach.{Reach}
 use Rattle.machine.specs.declared.Width.{Width}
 use Rattle.machine.specs.declared.Width.the-variants.{Byte, Word, Long}
 use Rattle.machine.specs.declared.Place.{Place}
-use Rattle.machine.specs.declared.Place.the-variants.{Memory, Local, Cell, Nowhere}
+use Rattle.machine.specs.declared.Place.the-variants.{Memory, View, Nowhere}
 
 -- what a row brings
 pub record RowFits (row : Row) : Type 0 where
@@ -46,13 +51,6 @@ pub record RowFits (row : Row) : Type 0 where
   pub goes-fits : CellFits (row .goes)
   pub link-fits : ActFits (row .link)
   pub memory-fits : AllBytes (row .memory)
-
-byte-list : (n v : ℕ) → AllBytes (bytesOf n v)
-byte-list zero v = tt
-byte-list (suc n) v = subst AllBytes (sym (bytes-first n v)) (omega arith, byte-list n v)
-
-bytes-of : (l : List ℕ) → AllBytes l → Bytes l
-bytes-of l h i = all-read (λ b. b < 2 ^ 8) l h i 0 (omega arith)
 
 pub cell-fits : (m : Machine) → Fits m → (n : ℕ) → CellFits (getD (m .cells) n 0)
 cell-fits m h n = all-read CellFits (m .cells) (h .cells-fit) n 0 (omega arith)
@@ -129,23 +127,16 @@ module _ (i : Instruction) (mem : List ℕ) (m : Machine) (operand-fits : CellFi
       record { puts-fit = (f .0, (f .1, tt)); goes-fits = next-fits; link-fits = tt; memory-fits = bytes }
   two-row-fits DivisorZero f = record { puts-fit = tt; goes-fits = next-fits; link-fits = tt; memory-fits = bytes }
 
-  -- the cells in view
-  locals-fit : All CellFits (localsInView m)
-  locals-fit = frame-in-view (m .links) (whole .shaped) (formed .sound) (h .links-fit) .locals-fit
-
-  cells-fit : All CellFits (cellsInView m)
-  cells-fit = level-in-view (m .links) (whole .shaped) (formed .sound) (h .links-fit) .cells-fit
-
   fetch-row-fits : (w : Width) (place : Place) → RowFits (fetchRow i mem m w place)
   fetch-row-fits w (Memory a) =
       record {
-        puts-fit = (width-below w _ (number-below (size w) mem a (bytes-of mem bytes)), tt);
+        puts-fit = (width-below w _ (number-below (size w) mem a (bytes-at mem bytes)), tt);
         goes-fits = next-fits;
         link-fits = tt;
         memory-fits = bytes;
       }
-  fetch-row-fits w (Local k) = stays-fit _ (all-read CellFits (localsInView m) locals-fit k 0 (omega arith), tt)
-  fetch-row-fits w (Cell k) = stays-fit _ (all-read CellFits (cellsInView m) cells-fit k 0 (omega arith), tt)
+  fetch-row-fits w (View a) =
+      stays-fit _ (width-below w _ (number-below (size w) (bytesOfCells (inView m)) a (bytes-at (bytesOfCells (inView m)) (list-bytes 4 (inView m)))), tt)
   fetch-row-fits w Nowhere = record { puts-fit = tt; goes-fits = next-fits; link-fits = tt; memory-fits = bytes }
 
   store-row-fits : (w : Width) (place : Place) → RowFits (storeRow i mem m w place)
@@ -154,29 +145,24 @@ module _ (i : Instruction) (mem : List ℕ) (m : Machine) (operand-fits : CellFi
         puts-fit = tt;
         goes-fits = next-fits;
         link-fits = tt;
-        memory-fits = all-sets (λ b. b < 2 ^ 8) mem bytes a (bytesOf (size w) (second m)) (byte-list (size w) (second m));
+        memory-fits = all-sets (λ b. b < 2 ^ 8) mem bytes a (bytesOf (size w) (second m)) (spelled-bytes (size w) (second m));
       }
-  store-row-fits w (Local k) =
+  store-row-fits w (View a) =
+      let bytes-stored = bytesOf (size w) (second m) in
+      let after = overwritten (inView m) a bytes-stored in
+      let held : All CellFits after = overwritten-fits (inView m) a bytes-stored (spelled-bytes (size w) (second m)) in
+      let locals = frame-in-view (m .links) (whole .shaped) (formed .sound) (h .links-fit) .locals-long in
+      let cells = level-in-view (m .links) (whole .shaped) (formed .sound) (h .links-fit) .cells-long in
+      let long : length after ≡ localsCount + levelCells =
+      overwritten-long (inView m) a bytes-stored ∙ (length-append (localsInView m) (cellsInView m) ∙ omega arith) in
       record {
         puts-fit = tt;
         goes-fits = next-fits;
         link-fits = (
-          length-set (localsInView m) k (second m) ∙ frame-in-view (m .links) (whole .shaped) (formed .sound) (h .links-fit) .locals-long,
-          all-set CellFits (localsInView m) locals-fit k (second m) (cell-at _),
-          level-in-view (m .links) (whole .shaped) (formed .sound) (h .links-fit) .cells-long,
-          cells-fit,
-        );
-        memory-fits = bytes;
-      }
-  store-row-fits w (Cell k) =
-      record {
-        puts-fit = tt;
-        goes-fits = next-fits;
-        link-fits = (
-          frame-in-view (m .links) (whole .shaped) (formed .sound) (h .links-fit) .locals-long,
-          locals-fit,
-          length-set (cellsInView m) k (second m) ∙ level-in-view (m .links) (whole .shaped) (formed .sound) (h .links-fit) .cells-long,
-          all-set CellFits (cellsInView m) cells-fit k (second m) (cell-at _),
+          length-take-le localsCount after (omega arith),
+          all-take CellFits localsCount after held,
+          length-drop localsCount after ∙ omega arith,
+          all-drop CellFits localsCount after held,
         );
         memory-fits = bytes;
       }
@@ -224,7 +210,7 @@ step-carries reach mem m mem′ m′ k formed x e =
     let i = instructionAt reach mem (m .counter) in
     let operand =
     operand-below (entryAt (i .code) .operand) mem (m .counter)
-    (at-code (λ code e. smallOperand (e .operand)) operands-small (i .code)) (bytes-of mem (x .bytes)) in
+    (at-code (λ code e. smallOperand (e .operand)) operands-small (i .code)) (bytes-at mem (x .bytes)) in
     let next : CellFits (i .next) = omega arith in
     let row = row-fits i mem m operand next (x .bytes) (x .whole) formed h (entryAt (i .code) .op) in
     let links-fit =

@@ -23,7 +23,7 @@ use Rattle.machine.specs.Laws.Marks.{codeOfTwo}
 use Rattle.machine.specs.declared.Machine.{Machine}
 use Rattle.machine.specs.declared.Width.{Width}
 use Rattle.machine.specs.declared.Place.{Place}
-use Rattle.machine.specs.declared.Place.the-variants.{Memory, Local, Cell, Nowhere}
+use Rattle.machine.specs.declared.Place.the-variants.{Memory, View, Nowhere}
 
 -- the cells that an instruction puts, the most for ?DUP and THROW
 abbrev putsOfShuffle : Shuffle → ℕ
@@ -162,14 +162,12 @@ module _ (i : Instruction) (mem : List ℕ) (m : Machine) where
 
   fetch-puts : (w : Width) (place : Place) → Puts (FETCH w) (fetchRow i mem m w place)
   fetch-puts w (Memory a) = exactly _ _ refl refl
-  fetch-puts w (Local k) = exactly _ _ refl refl
-  fetch-puts w (Cell k) = exactly _ _ refl refl
+  fetch-puts w (View a) = exactly _ _ refl refl
   fetch-puts w Nowhere = lacking-puts _ _ refl (λ place divisor. clash place)
 
   store-puts : (w : Width) (place : Place) → Puts (STORE w) (storeRow i mem m w place)
   store-puts w (Memory a) = exactly _ _ refl refl
-  store-puts w (Local k) = exactly _ _ refl refl
-  store-puts w (Cell k) = exactly _ _ refl refl
+  store-puts w (View a) = exactly _ _ refl refl
   store-puts w Nowhere = exactly _ _ refl refl
 
   pub row-puts : (op : Op) → Puts op (rowOf i mem m op)

@@ -22,7 +22,7 @@ use Rattle.machine.specs.Rows.{Row, nothing, aReturnCell, top, second, r
 use Rattle.machine.specs.declared.Machine.{Machine}
 use Rattle.machine.specs.declared.Width.{Width}
 use Rattle.machine.specs.declared.Place.{Place}
-use Rattle.machine.specs.declared.Place.the-variants.{Memory, Local, Cell, Nowhere}
+use Rattle.machine.specs.declared.Place.the-variants.{Memory, View, Nowhere}
 
 -- a THROW that is thrown: the top cell is not 0, and it is put on the copy of P
 pub record Throwing (m : Machine) (row : Row) : Type 0 where
@@ -92,14 +92,12 @@ module _ (i : Instruction) (mem : List ℕ) (m : Machine) where
 
   fetch-fair : (op : Op) (w : Width) (place : Place) → Fair i m mem op (fetchRow i mem m w place)
   fetch-fair op w (Memory a) = kept-fair _ _ refl refl tt
-  fetch-fair op w (Local k) = kept-fair _ _ refl refl tt
-  fetch-fair op w (Cell k) = kept-fair _ _ refl refl tt
+  fetch-fair op w (View a) = kept-fair _ _ refl refl tt
   fetch-fair op w Nowhere = kept-fair _ _ refl refl tt
 
   store-fair : (op : Op) (w : Width) (place : Place) → Fair i m mem op (storeRow i mem m w place)
   store-fair op w (Memory a) = kept-fair _ _ refl (length-sets mem a (bytesOf (size w) (second m))) tt
-  store-fair op w (Local k) = kept-fair _ _ refl refl tt
-  store-fair op w (Cell k) = kept-fair _ _ refl refl tt
+  store-fair op w (View a) = kept-fair _ _ refl refl tt
   store-fair op w Nowhere = kept-fair _ _ refl refl tt
 
   -- every row is fair

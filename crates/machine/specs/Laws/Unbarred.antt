@@ -2,7 +2,7 @@
 use mathlib.Core.Path.{_≡_, refl, ap, _∙_}
 use mathlib.Core.Bool.{Bool, true, false}
 use mathlib.Core.List.{List, [], _∷_}
-use Prim.Native.Nat.{ℕ, zero, suc, _+_, _-_, _/_, _<_, _≤_}
+use Prim.Native.Nat.{ℕ, zero, suc, _+_, _-_, _<_, _≤_}
 use native.Mathlib.Nat.{add-zero, not-suc-le-zero}
 use native.Mathlib.Omega.{arith}
 use borrow.Author.Tests.{leb-true}
@@ -10,7 +10,7 @@ use lib.Dec.{leb}
 use Rattle.plain.specs.Choice.{pick, both}
 use Rattle.machine.specs.Limits.{memoryLength}
 use Rattle.machine.specs.Reach.{mayTouch, Bar, none, outside, foreign, barOf, isOutside, isForeign}
-use Rattle.machine.specs.Memory.{size, isLong, isListedCell, firstLocal, lastLocal, firstCell, lastCell, placeOf}
+use Rattle.machine.specs.Memory.{size, viewStart, viewEnd, placeOf}
 use Rattle.machine.specs.Fetch.{Instruction}
 use Rattle.machine.specs.Rows.{Row}
 use Rattle.machine.specs.Checks.{Test, tests}
@@ -20,7 +20,7 @@ use Rattle.machine.specs.Laws.Passed.{AllPass}
 use Rattle.machine.specs.declared.Machine.{Machine}
 use Rattle.machine.specs.declared.Reach.{Reach}
 use Rattle.machine.specs.declared.Width.{Width}
-use Rattle.machine.specs.declared.Place.the-variants.{Memory, Local, Cell, Nowhere}
+use Rattle.machine.specs.declared.Place.the-variants.{Memory, View, Nowhere}
 
 module _ (reach : Reach) where
   pub unbarred : (a n : ℕ) → barOf reach a n ≡ none → (k : ℕ) → k < n → mayTouch reach (a + k) ≡ true
@@ -40,16 +40,12 @@ module _ (reach : Reach) where
 -- an access in memory lies wholly inside
 pub place-inside : (w : Width) (a k : ℕ) → placeOf w a ≡ Memory k → k + size w ≤ memoryLength
 unfolding placeOf
-place-inside w a k e =
-    go (leb (a + size w) memoryLength) (both (isLong w) (isListedCell firstLocal lastLocal a)) (both (isLong w) (isListedCell firstCell lastCell a)) refl e
+place-inside w a k e = go (leb (a + size w) memoryLength) (both (leb viewStart a) (leb (a + size w) viewEnd)) refl e
   where
-    go : (x y z : Bool) → leb (a + size w) memoryLength ≡ x →
-        pick x (Memory a) (pick y (Local ((a - firstLocal) / 4)) (pick z (Cell ((a - firstCell) / 4)) Nowhere)) ≡ Memory k →
-        k + size w ≤ memoryLength
-    go true y z is e = let same : a ≡ k = cc in let fit : a + size w ≤ memoryLength = leb-true (a + size w) memoryLength is in omega arith
-    go false true z is e = never (cc)
-    go false false true is e = never (cc)
-    go false false false is e = never (cc)
+    go : (x y : Bool) → leb (a + size w) memoryLength ≡ x → pick x (Memory a) (pick y (View (a - viewStart)) Nowhere) ≡ Memory k → k + size w ≤ memoryLength
+    go true y is e = let same : a ≡ k = cc in let fit : a + size w ≤ memoryLength = leb-true (a + size w) memoryLength is in omega arith
+    go false true is e = never (cc)
+    go false false is e = never (cc)
 
 -- whether the last test of a list holds
 abbrev lastHolds : Bool → List Test → Bool

@@ -2,7 +2,7 @@
 use mathlib.Core.List.{List, [], _∷_, _++_}
 use Prim.Native.Nat.{ℕ, zero, suc, _-_, _<_}
 use native.Mathlib.Nat.{le-of-suc-le-suc, not-suc-le-zero}
-use lib.ListN.{getD, set, length, replicate}
+use lib.ListN.{getD, set, length, take, drop, replicate}
 use lib.Seq.{sets}
 use Rattle.plain.specs.All.{All}
 use Rattle.plain.specs.Zeros.{padded}
@@ -32,6 +32,16 @@ module _ {A : Type 0} (P : A → Type 0) where
   pub all-replicate : (n : ℕ) (x : A) → P x → All P (replicate n x)
   all-replicate zero x p = tt
   all-replicate (suc n) x p = (p, all-replicate n x p)
+
+  pub all-take : (n : ℕ) (l : List A) → All P l → All P (take n l)
+  all-take zero l h = tt
+  all-take (suc n) [] h = tt
+  all-take (suc n) (x ∷ xs) h = (h .0, all-take n xs (h .1))
+
+  pub all-drop : (n : ℕ) (l : List A) → All P l → All P (drop n l)
+  all-drop zero l h = h
+  all-drop (suc n) [] h = tt
+  all-drop (suc n) (x ∷ xs) h = all-drop n xs (h .1)
 
   pub all-append : (l m : List A) → All P l → All P m → All P (l ++ m)
   all-append [] m h k = k

@@ -25,7 +25,7 @@ use Rattle.machine.specs.Laws.Unbarred.{unbarred, place-inside, access-unbarred
 use Rattle.machine.specs.declared.Machine.{Machine}
 use Rattle.machine.specs.declared.Width.{Width}
 use Rattle.machine.specs.declared.Place.{Place}
-use Rattle.machine.specs.declared.Place.the-variants.{Memory, Local, Cell, Nowhere}
+use Rattle.machine.specs.declared.Place.the-variants.{Memory, View, Nowhere}
 use Rattle.task_demands.specs.Isolation.{Spares, Alike}
 use Rattle.task_demands.specs.Laws.Stores.{elsewhere, all-stored-alike}
 
@@ -91,8 +91,7 @@ module _ (i : Instruction) (mem twin : List ℕ) (m : Machine) (alike : Alike (i
       ap (λ (x : ℕ). put (cellsRow i mem m (x ∷ [])) m)
       (same-number (size w) mem twin a a (λ k below. alike .same-bytes (a + k) (reached w a (fetchRow i mem m w (Memory a)) is refl refl h k below))))
       refl refl
-  fetch-same w (Local k) is = stores-nothing _ _ refl (λ h. refl) refl refl
-  fetch-same w (Cell k) is = stores-nothing _ _ refl (λ h. refl) refl refl
+  fetch-same w (View a) is = stores-nothing _ _ refl (λ h. refl) refl refl
   fetch-same w Nowhere is = stores-nothing _ _ refl (λ h. refl) refl refl
 
   store-same : (w : Width) (place : Place) → placeOf w (top m) ≡ place → SameRow (storeRow i mem m w place) (storeRow i twin m w place)
@@ -112,8 +111,7 @@ module _ (i : Instruction) (mem twin : List ℕ) (m : Machine) (alike : Alike (i
               clash (mayTouch (i .reach) (a + k)) may (ap (mayTouch (i .reach)) (sym at) ∙ out));
         };
       }
-  store-same w (Local k) is = stores-nothing _ _ refl (λ h. refl) refl refl
-  store-same w (Cell k) is = stores-nothing _ _ refl (λ h. refl) refl refl
+  store-same w (View a) is = stores-nothing _ _ refl (λ h. refl) refl refl
   store-same w Nowhere is = stores-nothing _ _ refl (λ h. refl) refl refl
 
   pub same-row : (op : Op) → SameRow (rowOf i mem m op) (rowOf i twin m op)

@@ -1,6 +1,6 @@
--- Made by .ci/named from cell.rules: 73713ed345a2af73 106138a1e8a7aa01
+-- Made by .ci/named from cell.rules: 9cd29cdf123c6701 2465c7f8cbfec852
 -- The cells are the front of the level's row.
-use Rattle.run.proofs.Levels.{read-cell}
+use Rattle.run.proofs.Seen.{cell-read}
 use borrow.Author.Needs.{needs}
 use Rattle.run.proofs.linked.cell.Statement.{statement}
 use Rattle.run.proofs.linked.cell.Tie as tie
@@ -21,7 +21,7 @@ index-2-result : tie.Need-index-2-result
 index-2-result c = search needs
 
 returns : tie.Need-returns
-returns c = read-cell (c .before .args .rows .now) (c .before .args .e) (c .before .args .k) (c .before .pre .0) (c .before .pre .1)
+returns c = λ copies s h laid. cell-read (c .before .args .rows .now) copies s (c .before .args .e) h (c .before .pre .0) laid (c .before .args .k) (c .before .pre .1)
 
 pub cell-spec : {M : Type 1} → statement M
 cell-spec =

@@ -1,6 +1,6 @@
--- Made by .ci/named from local.rules: cd24e5f802f7fc5d 399dfe7f901e8dc1
+-- Made by .ci/named from local.rules: 4ab53e3d4e18435e 97f4a238292b9124
 -- The locals are the front of the level's row.
-use Rattle.run.proofs.Levels.{read-local}
+use Rattle.run.proofs.Seen.{local-read}
 use borrow.Author.Needs.{needs}
 use Rattle.run.proofs.linked.local.Statement.{statement}
 use Rattle.run.proofs.linked.local.Tie as tie
@@ -18,7 +18,7 @@ index-2-result : tie.Need-index-2-result
 index-2-result c = search needs
 
 returns : tie.Need-returns
-returns c = read-local (c .before .args .rows .now) (c .before .args .s) (c .before .args .k) (c .before .pre .0) (c .before .pre .1)
+returns c = λ copies e h laid. local-read (c .before .args .rows .now) copies (c .before .args .s) e (c .before .pre .0) h laid (c .before .args .k) (c .before .pre .1)
 
 pub local-spec : {M : Type 1} → statement M
 local-spec =

@@ -1,6 +1,6 @@
--- Made by .ci/named from set_cell.rules: 4e9f0cd4c04d75ff 2d80cf1e2bf5916a
+-- Made by .ci/named from set_cell.rules: 9c08cfe8a8a8dee1 1ba00d13ad2642bd
 -- The cells are the front of the level's row.
-use Rattle.run.proofs.Levels.{cell-stored}
+use Rattle.run.proofs.Seen.{cell-kept}
 use borrow.Author.Needs.{needs}
 use Rattle.run.proofs.linked.set_cell.Statement.{statement}
 use Rattle.run.proofs.linked.set_cell.Tie as tie
@@ -21,7 +21,7 @@ index-2-rows : tie.Need-index-2-rows
 index-2-rows c = search needs
 
 returns : tie.Need-returns
-returns c = λ copies laid. cell-stored (c .args .rows .now) copies laid (c .args .e) (c .args .k) (c .args .value) (c .pre .0) (c .pre .1)
+returns c = λ copies s h laid. cell-kept (c .args .rows .now) copies s (c .args .e) h (c .pre .0) laid (c .args .k) (c .args .value) (c .pre .1) (c .fits .value .fits)
 
 pub set-cell-spec : {M : Type 1} → statement M
 set-cell-spec =

@@ -1,6 +1,6 @@
--- Made by .ci/named from set_local.rules: 58e9dc9e756268eb 9efea4cf16b7f09a
+-- Made by .ci/named from set_local.rules: 1087b4a5383c4957 049e452ad6559894
 -- The locals are the front of the level's row.
-use Rattle.run.proofs.Levels.{local-stored}
+use Rattle.run.proofs.Seen.{local-kept}
 use borrow.Author.Needs.{needs}
 use Rattle.run.proofs.linked.set_local.Statement.{statement}
 use Rattle.run.proofs.linked.set_local.Tie as tie
@@ -18,7 +18,7 @@ index-2-rows : tie.Need-index-2-rows
 index-2-rows c = search needs
 
 returns : tie.Need-returns
-returns c = λ copies laid. local-stored (c .args .rows .now) copies laid (c .args .s) (c .args .k) (c .args .value) (c .pre .0) (c .pre .1)
+returns c = λ copies e h laid. local-kept (c .args .rows .now) copies (c .args .s) e (c .pre .0) h laid (c .args .k) (c .args .value) (c .pre .1) (c .fits .value .fits)
 
 pub set-local-spec : {M : Type 1} → statement M
 set-local-spec =

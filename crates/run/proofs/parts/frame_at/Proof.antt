@@ -1,4 +1,4 @@
--- Made by .ci/named from frame_at.rules: ae370fff939f870d 4b8f4cd6a30f8791
+-- Made by .ci/named from frame_at.rules: f688b7d03b5eef6d 88b635dd4b27f5aa
 -- The locals are the front of the level's row.
 use mathlib.Core.Path.{refl}
 use lib.ListN.{replicate}
@@ -36,7 +36,7 @@ index-2-t22 : tie.Need-index-2-t22
 index-2-t22 c = search needs
 
 returns : tie.Need-returns
-returns c = frame-read (c .before .before .before .before .before .before .before .args .rows .now) (c .before .before .before .before .before .before .before .args .copies .now) (c .before .before .before .before .before .before .before .args .n) (c .before .before .before .copy-front .last .1 .0) (replicate localsCount 0) (c .before .before .before .before .before .before .before .pre .0) refl (c .before .before .before .copy-front .ensures)
+returns c = frame-read (c .before .before .before .before .before .before .before .args .rows .now) (c .before .before .before .before .before .before .before .args .copies .now) (c .before .before .before .before .before .before .before .args .n) (c .before .before .before .copy-front .last .1 .0) (replicate localsCount 0) (c .before .before .before .before .before .before .before .pre .0) refl (c .before .before .before .copy-front .ensures .0)
 
 pub frame-at-spec : {M : Type 1} → statement M
 frame-at-spec =

@@ -1,4 +1,4 @@
--- Made by .ci/named from level_at.rules: 85e2c0fa36738daa 8daf11ea447b368d
+-- Made by .ci/named from level_at.rules: c86d8ff0c1f35ec0 d9550dc2d135735f
 -- The cells are the front of the level's row.
 use mathlib.Core.Path.{refl}
 use lib.ListN.{replicate}
@@ -57,7 +57,7 @@ index-2-t30 : tie.Need-index-2-t30
 index-2-t30 c = search needs
 
 returns : tie.Need-returns
-returns c = level-read (c .before .before .before .before .before .before .before .before .args .rows .now) (c .before .before .before .before .before .before .before .before .args .copies .now) (c .before .before .before .before .before .before .before .before .args .n) (c .before .before .before .before .copy-front .last .1 .0) (replicate levelCells 0) (c .before .before .before .before .before .before .before .before .pre .0) refl (c .before .before .before .before .copy-front .ensures)
+returns c = level-read (c .before .before .before .before .before .before .before .before .args .rows .now) (c .before .before .before .before .before .before .before .before .args .copies .now) (c .before .before .before .before .before .before .before .before .args .n) (c .before .before .before .before .copy-front .last .1 .0) (replicate levelCells 0) (c .before .before .before .before .before .before .before .before .pre .0) refl (c .before .before .before .before .copy-front .ensures .0)
 
 pub level-at-spec : {M : Type 1} → statement M
 level-at-spec =

@@ -1,4 +1,4 @@
--- Made by .ci/named from put_frame.rules: 2f5ef0de2b3ae3b6 850dd8151d80e95a
+-- Made by .ci/named from put_frame.rules: 0adc8b6dff6cf7d3 afeb42120df3ca77
 -- The locals at the front of the level's row, the address at its end, and the copy of R beside it.
 use mathlib.Core.Path.{_≡_}
 use native.Mathlib.Omega.{arith}
@@ -38,7 +38,7 @@ element-write-copies : tie.Need-element-write-copies
 element-write-copies c = search needs
 
 returns : tie.Need-returns
-returns c = frame-written (c .before .before .before .before .args .rows .now) (c .before .before .before .before .args .copies .now) (c .before .before .before .before .args .n) (c .before .before .before .before .pre .1) (c .before .before .before .before .args .frame) (c .copy-front .last .1 .0) (c .before .before .before .before .pre .0) (search needs) (c .copy-front .ensures)
+returns c = frame-written (c .before .before .before .before .args .rows .now) (c .before .before .before .before .args .copies .now) (c .before .before .before .before .args .n) (c .before .before .before .before .pre .1) (c .before .before .before .before .args .frame) (c .copy-front .last .1 .0) (c .before .before .before .before .pre .0) (search needs) (c .copy-front .ensures .0) (c .copy-front .ensures .1)
 
 pub put-frame-spec : {M : Type 1} → statement M
 put-frame-spec =

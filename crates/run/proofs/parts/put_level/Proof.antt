@@ -1,4 +1,4 @@
--- Made by .ci/named from put_level.rules: 4672aa78c7d9676e b4840877204c02ac
+-- Made by .ci/named from put_level.rules: f613ae236ef19d24 314dda9642edff31
 -- The cells at the front of the level's row, the address at its end, and the copies of S and P beside it.
 use Prim.Native.Nat.{_+_}
 use Rattle.links.specs.Depths.{framesCount}
@@ -61,7 +61,7 @@ element-write-copies-2 : tie.Need-element-write-copies-2
 element-write-copies-2 c = search needs
 
 returns : tie.Need-returns
-returns c = level-written (c .before .before .before .before .args .rows .now) (c .before .before .before .before .args .copies .now) (c .before .before .before .before .args .n) (c .before .before .before .before .pre .1) (c .before .before .before .before .args .level) (c .copy-front .last .1 .0) (c .before .before .before .before .pre .0) (search needs) (c .copy-front .ensures)
+returns c = level-written (c .before .before .before .before .args .rows .now) (c .before .before .before .before .args .copies .now) (c .before .before .before .before .args .n) (c .before .before .before .before .pre .1) (c .before .before .before .before .args .level) (c .copy-front .last .1 .0) (c .before .before .before .before .pre .0) (search needs) (c .copy-front .ensures .0) (c .copy-front .ensures .1)
 
 pub put-level-spec : {M : Type 1} → statement M
 put-level-spec =

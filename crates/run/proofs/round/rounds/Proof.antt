@@ -1,13 +1,15 @@
--- Made by .ci/named from rounds.rules: 89f529989bb8020e 2766ffbd502b408a
+-- Made by .ci/named from rounds.rules: a858076b7516e1e9 679f7274a7ab68b7
 -- The loop is the definition's run: each round is one step of `stepOf`, and what ends it is the definition's own.
 use mathlib.Core.Path.{_≡_, refl, ap, sym, _∙_}
 use mathlib.Core.Bool.{false}
 use mathlib.Core.Logic.{inl, inr}
-use Prim.Native.Nat.{ℕ, _-_, _<_}
+use Prim.Native.Nat.{ℕ, _+_, _-_, _*_, _<_}
 use native.Mathlib.Omega.{arith}
+use lib.ListN.{getD}
 use Rattle.plain.specs.Answer.{refuses}
+use Rattle.links.specs.Depths.{localsCount}
 use Rattle.machine.specs.Reach.{alone, isForeign}
-use Rattle.machine.specs.Codes.{codePAUSE, cycleTable}
+use Rattle.machine.specs.Codes.{codePAUSE, cycleTable, cyclesOf}
 use Rattle.machine.specs.Fetch.{instructionAt}
 use Rattle.reach.specs.Spots.{widthOf}
 use Rattle.reach.specs.Spots.{saysReached}
@@ -18,10 +20,10 @@ use Rattle.run.specs.Verdicts.{sAfterPop, eAfterDropOf, eAfterPop}
 use Rattle.reach.specs.declared.Reached.the-variants as reached
 use Rattle.run.specs.declared.Thrown.the-variants as thrown
 use Rattle.run.proofs.Answered.{told}
-use Rattle.run.proofs.Arms.{push-acts, copy-acts, pop-acts, catch-acts, reset-acts, throw-acts, exit-acts, call-acts, call-top-acts, fetch-acts, fetchedAs, store-acts, written-there, thrown-there, held-there, cells-acts, cells-end, pause-is}
+use Rattle.run.proofs.Arms.{push-acts, copy-acts, pop-acts, catch-acts, reset-acts, throw-acts, exit-acts, call-acts, call-top-acts, fetch-acts, fetchedAs, store-acts, fetched-whole, kept-whole, long-fetch, long-store, written-there, thrown-there, held-there, cells-acts, cells-end, pause-is}
 use Rattle.run.proofs.Levels.{caught-above}
 use Rattle.run.proofs.Loop.{starts}
-use Rattle.run.proofs.Rooms.{push-room, read-room, call-room, catch-room, exit-room, zero-room, code-room, memory-room, local-room, cell-room, own-room}
+use Rattle.run.proofs.Rooms.{push-room, read-room, call-room, catch-room, exit-room, zero-room, code-room, memory-room, view-room, spot-within}
 use Rattle.run.proofs.Rounds.{Round, begins, Found, ends, goes, paused, fetch-ends, foreign-ends, halted-less}
 use borrow.Author.Needs.{needs}
 use Rattle.run.proofs.round.rounds.Statement.{statement}
@@ -528,16 +530,16 @@ enum-known-spot-3 : tie.Need-enum-known-spot-3 Inv-loop μ-loop
 enum-known-spot-3 c = search needs
 
 local-requires : tie.Need-local-requires Inv-loop μ-loop
-local-requires c κs = (omega (arith, (c .before .before .before .before .before .before .before .before .before .before .before .before .before .before .before .before .before .before .before .before .before .loop .inv .0) .s-within), omega (arith, local-room (c .before .before .before .before .before .before .before .before .before .before .before .before .before .before .before .before .before .before .before .before .before .before .before .args .reach) (widthOf (c .before .before .before .before .before .before .before .before .before .before .before .before .fetched .given .0 .0)) (c .before .before .before .before .before .before .before .before .before .before .before .before .before .before .before .before .before .before .before .before .before .loop .cells) (told saysReached (c .before .before .before .before .before .before .before .reach .ensures .0) (c .before .before .before .before .before .reached .given .1 ∙ ap reached.At (c .before .before .spot3 .given .1)))))
+local-requires c κs = ((omega (arith, (c .before .before .before .before .before .before .before .before .before .before .before .before .before .before .before .before .before .before .before .before .before .loop .inv .0) .s-within)), (spot-within (c .before .before .before .before .before .before .before .before .before .before .before .before .before .before .before .before .before .before .before .before .before .before .before .args .reach) (widthOf (c .before .before .before .before .before .before .before .before .before .before .before .before .fetched .given .0 .0)) (c .before .before .before .before .before .before .before .reach .ensures .1) (c .before .before .before .before .before .reached .given .1 ∙ ap reached.At (c .before .before .spot3 .given .1))) .1)
 
 sub-cells-5 : tie.Need-sub-cells-5 Inv-loop μ-loop
-sub-cells-5 c = omega (arith, local-room (c .before .before .before .before .before .before .before .before .before .before .before .before .before .before .before .before .before .before .before .before .before .before .before .before .args .reach) (widthOf (c .before .before .before .before .before .before .before .before .before .before .before .before .before .fetched .given .0 .0)) (c .before .before .before .before .before .before .before .before .before .before .before .before .before .before .before .before .before .before .before .before .before .before .loop .cells) (told saysReached (c .before .before .before .before .before .before .before .before .reach .ensures .0) (c .before .before .before .before .before .before .reached .given .1 ∙ ap reached.At (c .before .before .before .spot3 .given .1))), (c .before .before .before .before .before .before .before .before .before .before .before .before .before .before .before .before .before .before .before .before .before .before .loop .inv .0) .p-within)
+sub-cells-5 c = omega (arith, view-room (c .before .before .before .before .before .before .before .before .before .before .before .before .before .before .before .before .before .before .before .before .before .before .before .before .args .reach) (widthOf (c .before .before .before .before .before .before .before .before .before .before .before .before .before .fetched .given .0 .0)) (c .before .before .before .before .before .before .before .before .before .before .before .before .before .before .before .before .before .before .before .before .before .before .loop .cells) (told saysReached (c .before .before .before .before .before .before .before .before .reach .ensures .0) (c .before .before .before .before .before .before .reached .given .1 ∙ ap reached.At (c .before .before .before .spot3 .given .1))), (c .before .before .before .before .before .before .before .before .before .before .before .before .before .before .before .before .before .before .before .before .before .before .loop .inv .0) .p-within)
 
 mul-cells-8 : tie.Need-mul-cells-8 Inv-loop μ-loop
-mul-cells-8 c = omega (arith, local-room (c .before .before .before .before .before .before .before .before .before .before .before .before .before .before .before .before .before .before .before .before .before .before .before .before .args .reach) (widthOf (c .before .before .before .before .before .before .before .before .before .before .before .before .before .fetched .given .0 .0)) (c .before .before .before .before .before .before .before .before .before .before .before .before .before .before .before .before .before .before .before .before .before .before .loop .cells) (told saysReached (c .before .before .before .before .before .before .before .before .reach .ensures .0) (c .before .before .before .before .before .before .reached .given .1 ∙ ap reached.At (c .before .before .before .spot3 .given .1))), (c .before .before .before .before .before .before .before .before .before .before .before .before .before .before .before .before .before .before .before .before .before .before .loop .inv .0) .p-within)
+mul-cells-8 c = omega (arith, view-room (c .before .before .before .before .before .before .before .before .before .before .before .before .before .before .before .before .before .before .before .before .before .before .before .before .args .reach) (widthOf (c .before .before .before .before .before .before .before .before .before .before .before .before .before .fetched .given .0 .0)) (c .before .before .before .before .before .before .before .before .before .before .before .before .before .before .before .before .before .before .before .before .before .before .loop .cells) (told saysReached (c .before .before .before .before .before .before .before .before .reach .ensures .0) (c .before .before .before .before .before .before .reached .given .1 ∙ ap reached.At (c .before .before .before .spot3 .given .1))), (c .before .before .before .before .before .before .before .before .before .before .before .before .before .before .before .before .before .before .before .before .before .before .loop .inv .0) .p-within)
 
 element-write-cells-6 : tie.Need-element-write-cells-6 Inv-loop μ-loop
-element-write-cells-6 c = omega (arith, local-room (c .before .before .before .before .before .before .before .before .before .before .before .before .before .before .before .before .before .before .before .before .before .before .before .before .args .reach) (widthOf (c .before .before .before .before .before .before .before .before .before .before .before .before .before .fetched .given .0 .0)) (c .before .before .before .before .before .before .before .before .before .before .before .before .before .before .before .before .before .before .before .before .before .before .loop .cells) (told saysReached (c .before .before .before .before .before .before .before .before .reach .ensures .0) (c .before .before .before .before .before .before .reached .given .1 ∙ ap reached.At (c .before .before .before .spot3 .given .1))), (c .before .before .before .before .before .before .before .before .before .before .before .before .before .before .before .before .before .before .before .before .before .before .loop .inv .0) .p-within)
+element-write-cells-6 c = omega (arith, view-room (c .before .before .before .before .before .before .before .before .before .before .before .before .before .before .before .before .before .before .before .before .before .before .before .before .args .reach) (widthOf (c .before .before .before .before .before .before .before .before .before .before .before .before .before .fetched .given .0 .0)) (c .before .before .before .before .before .before .before .before .before .before .before .before .before .before .before .before .before .before .before .before .before .before .loop .cells) (told saysReached (c .before .before .before .before .before .before .before .before .reach .ensures .0) (c .before .before .before .before .before .before .reached .given .1 ∙ ap reached.At (c .before .before .before .spot3 .given .1))), (c .before .before .before .before .before .before .before .before .before .before .before .before .before .before .before .before .before .before .before .before .before .before .loop .inv .0) .p-within)
 
 price-requires-10 : tie.Need-price-requires-10 Inv-loop μ-loop
 price-requires-10 c κs = c .before .before .before .before .before .before .before .before .before .before .before .before .before .before .before .before .before .before .before .before .before .before .loop .inv .1 .0
@@ -549,22 +551,22 @@ loop-less-20 : tie.Need-loop-less-20 Inv-loop μ-loop
 loop-less-20 c = omega (arith, c .counted11 .ensures .1)
 
 loop-again-20 : tie.Need-loop-again-20 Inv-loop μ-loop
-loop-again-20 c = (goes (found (c .before .before .before .before .before .before .before .before .before .before .before .before .before .before)) (fetch-acts (found (c .before .before .before .before .before .before .before .before .before .before .before .before .before .before)) (c .before .before .before .before .before .before .before .before .before .before .before .before .match3 .keys7)) (told saysReached (c .before .before .before .before .before .before .before .before .before .before .reach .ensures .0) (c .before .before .before .before .before .before .before .before .reached .given .1 ∙ ap reached.At (c .before .before .before .before .before .spot3 .given .1))) (ap (fetchedAs (found (c .before .before .before .before .before .before .before .before .before .before .before .before .before .before))) (sym (c .before .before .local .ensures (c .before .before .before .before .before .before .before .before .before .before .before .before .before .before .before .before .before .before .before .before .before .before .before .before .loop .copies)))) refl (c .before .price10 .ensures .0) (c .counted11 .ensures .0), (c .before .before .before .before .before .before .before .before .before .before .before .before .before .before .before .before .before .before .before .before .before .before .before .before .loop .inv .1))
+loop-again-20 c = (goes (found (c .before .before .before .before .before .before .before .before .before .before .before .before .before .before)) (fetch-acts (found (c .before .before .before .before .before .before .before .before .before .before .before .before .before .before)) (c .before .before .before .before .before .before .before .before .before .before .before .before .match3 .keys7)) (told saysReached (c .before .before .before .before .before .before .before .before .before .before .reach .ensures .0) (c .before .before .before .before .before .before .before .before .reached .given .1 ∙ ap reached.At (c .before .before .before .before .before .spot3 .given .1))) (fetched-whole (found (c .before .before .before .before .before .before .before .before .before .before .before .before .before .before)) (widthOf (c .before .before .before .before .before .before .before .before .before .before .before .before .before .before .before .fetched .given .0 .0)) (4 * c .before .before .before .before .before .spot3 .given .0 .0) ((spot-within (c .before .before .before .before .before .before .before .before .before .before .before .before .before .before .before .before .before .before .before .before .before .before .before .before .before .before .args .reach) (widthOf (c .before .before .before .before .before .before .before .before .before .before .before .before .before .before .before .fetched .given .0 .0)) (c .before .before .before .before .before .before .before .before .before .before .reach .ensures .1) (c .before .before .before .before .before .before .before .before .reached .given .1 ∙ ap reached.At (c .before .before .before .before .before .spot3 .given .1))) .0) (c .before .before .local .ensures (c .before .before .before .before .before .before .before .before .before .before .before .before .before .before .before .before .before .before .before .before .before .before .before .before .loop .copies) (c .before .before .before .before .before .before .before .before .before .before .before .before .before .before .before .before .before .before .before .before .before .before .before .before .loop .regs .e) (omega (arith, (c .before .before .before .before .before .before .before .before .before .before .before .before .before .before .before .before .before .before .before .before .before .before .before .before .loop .inv .0) .e-within)) (c .before .before .before .before .before .before .before .before .before .before .before .before .before .before .before .before .before .before .before .before .before .before .before .before .loop .inv .1 .1))) refl (c .before .price10 .ensures .0 ∙ ap cyclesOf (sym (long-fetch (c .before .before .before .before .before .before .before .before .before .before .before .before .before .before .before .fetched .given .0 .0) (c .before .before .before .before .before .before .before .before .before .before .before .before .match3 .keys7) ((spot-within (c .before .before .before .before .before .before .before .before .before .before .before .before .before .before .before .before .before .before .before .before .before .before .before .before .before .before .args .reach) (widthOf (c .before .before .before .before .before .before .before .before .before .before .before .before .before .before .before .fetched .given .0 .0)) (c .before .before .before .before .before .before .before .before .before .before .reach .ensures .1) (c .before .before .before .before .before .before .before .before .reached .given .1 ∙ ap reached.At (c .before .before .before .before .before .spot3 .given .1))) .0)))) (c .counted11 .ensures .0), (c .before .before .before .before .before .before .before .before .before .before .before .before .before .before .before .before .before .before .before .before .before .before .before .before .loop .inv .1))
 
 enum-known-spot-4 : tie.Need-enum-known-spot-4 Inv-loop μ-loop
 enum-known-spot-4 c = search needs
 
 cell-requires : tie.Need-cell-requires Inv-loop μ-loop
-cell-requires c κs = (omega (arith, (c .before .before .before .before .before .before .before .before .before .before .before .before .before .before .before .before .before .before .before .before .before .loop .inv .0) .e-within), omega (arith, cell-room (c .before .before .before .before .before .before .before .before .before .before .before .before .before .before .before .before .before .before .before .before .before .before .before .args .reach) (widthOf (c .before .before .before .before .before .before .before .before .before .before .before .before .fetched .given .0 .0)) (c .before .before .before .before .before .before .before .before .before .before .before .before .before .before .before .before .before .before .before .before .before .loop .cells) (told saysReached (c .before .before .before .before .before .before .before .reach .ensures .0) (c .before .before .before .before .before .reached .given .1 ∙ ap reached.At (c .before .before .spot4 .given .1)))))
+cell-requires c κs = ((omega (arith, (c .before .before .before .before .before .before .before .before .before .before .before .before .before .before .before .before .before .before .before .before .before .loop .inv .0) .e-within)), (spot-within (c .before .before .before .before .before .before .before .before .before .before .before .before .before .before .before .before .before .before .before .before .before .before .before .args .reach) (widthOf (c .before .before .before .before .before .before .before .before .before .before .before .before .fetched .given .0 .0)) (c .before .before .before .before .before .before .before .reach .ensures .1) (c .before .before .before .before .before .reached .given .1 ∙ ap reached.At (c .before .before .spot4 .given .1))) .1)
 
 sub-cells-6 : tie.Need-sub-cells-6 Inv-loop μ-loop
-sub-cells-6 c = omega (arith, cell-room (c .before .before .before .before .before .before .before .before .before .before .before .before .before .before .before .before .before .before .before .before .before .before .before .before .args .reach) (widthOf (c .before .before .before .before .before .before .before .before .before .before .before .before .before .fetched .given .0 .0)) (c .before .before .before .before .before .before .before .before .before .before .before .before .before .before .before .before .before .before .before .before .before .before .loop .cells) (told saysReached (c .before .before .before .before .before .before .before .before .reach .ensures .0) (c .before .before .before .before .before .before .reached .given .1 ∙ ap reached.At (c .before .before .before .spot4 .given .1))), (c .before .before .before .before .before .before .before .before .before .before .before .before .before .before .before .before .before .before .before .before .before .before .loop .inv .0) .p-within)
+sub-cells-6 c = omega (arith, view-room (c .before .before .before .before .before .before .before .before .before .before .before .before .before .before .before .before .before .before .before .before .before .before .before .before .args .reach) (widthOf (c .before .before .before .before .before .before .before .before .before .before .before .before .before .fetched .given .0 .0)) (c .before .before .before .before .before .before .before .before .before .before .before .before .before .before .before .before .before .before .before .before .before .before .loop .cells) (told saysReached (c .before .before .before .before .before .before .before .before .reach .ensures .0) (c .before .before .before .before .before .before .reached .given .1 ∙ ap reached.At (c .before .before .before .spot4 .given .1))), (c .before .before .before .before .before .before .before .before .before .before .before .before .before .before .before .before .before .before .before .before .before .before .loop .inv .0) .p-within)
 
 mul-cells-9 : tie.Need-mul-cells-9 Inv-loop μ-loop
-mul-cells-9 c = omega (arith, cell-room (c .before .before .before .before .before .before .before .before .before .before .before .before .before .before .before .before .before .before .before .before .before .before .before .before .args .reach) (widthOf (c .before .before .before .before .before .before .before .before .before .before .before .before .before .fetched .given .0 .0)) (c .before .before .before .before .before .before .before .before .before .before .before .before .before .before .before .before .before .before .before .before .before .before .loop .cells) (told saysReached (c .before .before .before .before .before .before .before .before .reach .ensures .0) (c .before .before .before .before .before .before .reached .given .1 ∙ ap reached.At (c .before .before .before .spot4 .given .1))), (c .before .before .before .before .before .before .before .before .before .before .before .before .before .before .before .before .before .before .before .before .before .before .loop .inv .0) .p-within)
+mul-cells-9 c = omega (arith, view-room (c .before .before .before .before .before .before .before .before .before .before .before .before .before .before .before .before .before .before .before .before .before .before .before .before .args .reach) (widthOf (c .before .before .before .before .before .before .before .before .before .before .before .before .before .fetched .given .0 .0)) (c .before .before .before .before .before .before .before .before .before .before .before .before .before .before .before .before .before .before .before .before .before .before .loop .cells) (told saysReached (c .before .before .before .before .before .before .before .before .reach .ensures .0) (c .before .before .before .before .before .before .reached .given .1 ∙ ap reached.At (c .before .before .before .spot4 .given .1))), (c .before .before .before .before .before .before .before .before .before .before .before .before .before .before .before .before .before .before .before .before .before .before .loop .inv .0) .p-within)
 
 element-write-cells-7 : tie.Need-element-write-cells-7 Inv-loop μ-loop
-element-write-cells-7 c = omega (arith, cell-room (c .before .before .before .before .before .before .before .before .before .before .before .before .before .before .before .before .before .before .before .before .before .before .before .before .args .reach) (widthOf (c .before .before .before .before .before .before .before .before .before .before .before .before .before .fetched .given .0 .0)) (c .before .before .before .before .before .before .before .before .before .before .before .before .before .before .before .before .before .before .before .before .before .before .loop .cells) (told saysReached (c .before .before .before .before .before .before .before .before .reach .ensures .0) (c .before .before .before .before .before .before .reached .given .1 ∙ ap reached.At (c .before .before .before .spot4 .given .1))), (c .before .before .before .before .before .before .before .before .before .before .before .before .before .before .before .before .before .before .before .before .before .before .loop .inv .0) .p-within)
+element-write-cells-7 c = omega (arith, view-room (c .before .before .before .before .before .before .before .before .before .before .before .before .before .before .before .before .before .before .before .before .before .before .before .before .args .reach) (widthOf (c .before .before .before .before .before .before .before .before .before .before .before .before .before .fetched .given .0 .0)) (c .before .before .before .before .before .before .before .before .before .before .before .before .before .before .before .before .before .before .before .before .before .before .loop .cells) (told saysReached (c .before .before .before .before .before .before .before .before .reach .ensures .0) (c .before .before .before .before .before .before .reached .given .1 ∙ ap reached.At (c .before .before .before .spot4 .given .1))), (c .before .before .before .before .before .before .before .before .before .before .before .before .before .before .before .before .before .before .before .before .before .before .loop .inv .0) .p-within)
 
 price-requires-11 : tie.Need-price-requires-11 Inv-loop μ-loop
 price-requires-11 c κs = c .before .before .before .before .before .before .before .before .before .before .before .before .before .before .before .before .before .before .before .before .before .before .loop .inv .1 .0
@@ -576,7 +578,34 @@ loop-less-21 : tie.Need-loop-less-21 Inv-loop μ-loop
 loop-less-21 c = omega (arith, c .counted12 .ensures .1)
 
 loop-again-21 : tie.Need-loop-again-21 Inv-loop μ-loop
-loop-again-21 c = (goes (found (c .before .before .before .before .before .before .before .before .before .before .before .before .before .before)) (fetch-acts (found (c .before .before .before .before .before .before .before .before .before .before .before .before .before .before)) (c .before .before .before .before .before .before .before .before .before .before .before .before .match3 .keys7)) (told saysReached (c .before .before .before .before .before .before .before .before .before .before .reach .ensures .0) (c .before .before .before .before .before .before .before .before .reached .given .1 ∙ ap reached.At (c .before .before .before .before .before .spot4 .given .1))) (ap (fetchedAs (found (c .before .before .before .before .before .before .before .before .before .before .before .before .before .before))) (sym (c .before .before .cell .ensures (c .before .before .before .before .before .before .before .before .before .before .before .before .before .before .before .before .before .before .before .before .before .before .before .before .loop .copies)))) refl (c .before .price11 .ensures .0) (c .counted12 .ensures .0), (c .before .before .before .before .before .before .before .before .before .before .before .before .before .before .before .before .before .before .before .before .before .before .before .before .loop .inv .1))
+loop-again-21 c = (goes (found (c .before .before .before .before .before .before .before .before .before .before .before .before .before .before)) (fetch-acts (found (c .before .before .before .before .before .before .before .before .before .before .before .before .before .before)) (c .before .before .before .before .before .before .before .before .before .before .before .before .match3 .keys7)) (told saysReached (c .before .before .before .before .before .before .before .before .before .before .reach .ensures .0) (c .before .before .before .before .before .before .before .before .reached .given .1 ∙ ap reached.At (c .before .before .before .before .before .spot4 .given .1))) (fetched-whole (found (c .before .before .before .before .before .before .before .before .before .before .before .before .before .before)) (widthOf (c .before .before .before .before .before .before .before .before .before .before .before .before .before .before .before .fetched .given .0 .0)) (4 * (localsCount + c .before .before .before .before .before .spot4 .given .0 .0)) ((spot-within (c .before .before .before .before .before .before .before .before .before .before .before .before .before .before .before .before .before .before .before .before .before .before .before .before .before .before .args .reach) (widthOf (c .before .before .before .before .before .before .before .before .before .before .before .before .before .before .before .fetched .given .0 .0)) (c .before .before .before .before .before .before .before .before .before .before .reach .ensures .1) (c .before .before .before .before .before .before .before .before .reached .given .1 ∙ ap reached.At (c .before .before .before .before .before .spot4 .given .1))) .0) (c .before .before .cell .ensures (c .before .before .before .before .before .before .before .before .before .before .before .before .before .before .before .before .before .before .before .before .before .before .before .before .loop .copies) (c .before .before .before .before .before .before .before .before .before .before .before .before .before .before .before .before .before .before .before .before .before .before .before .before .loop .regs .s) (omega (arith, (c .before .before .before .before .before .before .before .before .before .before .before .before .before .before .before .before .before .before .before .before .before .before .before .before .loop .inv .0) .s-within)) (c .before .before .before .before .before .before .before .before .before .before .before .before .before .before .before .before .before .before .before .before .before .before .before .before .loop .inv .1 .1))) refl (c .before .price11 .ensures .0 ∙ ap cyclesOf (sym (long-fetch (c .before .before .before .before .before .before .before .before .before .before .before .before .before .before .before .fetched .given .0 .0) (c .before .before .before .before .before .before .before .before .before .before .before .before .match3 .keys7) ((spot-within (c .before .before .before .before .before .before .before .before .before .before .before .before .before .before .before .before .before .before .before .before .before .before .before .before .before .before .args .reach) (widthOf (c .before .before .before .before .before .before .before .before .before .before .before .before .before .before .before .fetched .given .0 .0)) (c .before .before .before .before .before .before .before .before .before .before .reach .ensures .1) (c .before .before .before .before .before .before .before .before .reached .given .1 ∙ ap reached.At (c .before .before .before .before .before .spot4 .given .1))) .0)))) (c .counted12 .ensures .0), (c .before .before .before .before .before .before .before .before .before .before .before .before .before .before .before .before .before .before .before .before .before .before .before .before .loop .inv .1))
+
+enum-known-spot-5 : tie.Need-enum-known-spot-5 Inv-loop μ-loop
+enum-known-spot-5 c = search needs
+
+read-in-view-requires : tie.Need-read-in-view-requires Inv-loop μ-loop
+read-in-view-requires c κs = ((omega (arith, (c .before .before .before .before .before .before .before .before .before .before .before .before .before .before .before .before .before .before .before .before .before .loop .inv .0) .s-within)), ((omega (arith, (c .before .before .before .before .before .before .before .before .before .before .before .before .before .before .before .before .before .before .before .before .before .loop .inv .0) .e-within)), (view-room (c .before .before .before .before .before .before .before .before .before .before .before .before .before .before .before .before .before .before .before .before .before .before .before .args .reach) (widthOf (c .before .before .before .before .before .before .before .before .before .before .before .before .fetched .given .0 .0)) (c .before .before .before .before .before .before .before .before .before .before .before .before .before .before .before .before .before .before .before .before .before .loop .cells) (told saysReached (c .before .before .before .before .before .before .before .reach .ensures .0) (c .before .before .before .before .before .reached .given .1 ∙ ap reached.At (c .before .before .spot5 .given .1)))) .1))
+
+sub-cells-7 : tie.Need-sub-cells-7 Inv-loop μ-loop
+sub-cells-7 c = omega (arith, view-room (c .before .before .before .before .before .before .before .before .before .before .before .before .before .before .before .before .before .before .before .before .before .before .before .before .args .reach) (widthOf (c .before .before .before .before .before .before .before .before .before .before .before .before .before .fetched .given .0 .0)) (c .before .before .before .before .before .before .before .before .before .before .before .before .before .before .before .before .before .before .before .before .before .before .loop .cells) (told saysReached (c .before .before .before .before .before .before .before .before .reach .ensures .0) (c .before .before .before .before .before .before .reached .given .1 ∙ ap reached.At (c .before .before .before .spot5 .given .1))), (c .before .before .before .before .before .before .before .before .before .before .before .before .before .before .before .before .before .before .before .before .before .before .loop .inv .0) .p-within)
+
+mul-cells-10 : tie.Need-mul-cells-10 Inv-loop μ-loop
+mul-cells-10 c = omega (arith, view-room (c .before .before .before .before .before .before .before .before .before .before .before .before .before .before .before .before .before .before .before .before .before .before .before .before .args .reach) (widthOf (c .before .before .before .before .before .before .before .before .before .before .before .before .before .fetched .given .0 .0)) (c .before .before .before .before .before .before .before .before .before .before .before .before .before .before .before .before .before .before .before .before .before .before .loop .cells) (told saysReached (c .before .before .before .before .before .before .before .before .reach .ensures .0) (c .before .before .before .before .before .before .reached .given .1 ∙ ap reached.At (c .before .before .before .spot5 .given .1))), (c .before .before .before .before .before .before .before .before .before .before .before .before .before .before .before .before .before .before .before .before .before .before .loop .inv .0) .p-within)
+
+element-write-cells-8 : tie.Need-element-write-cells-8 Inv-loop μ-loop
+element-write-cells-8 c = omega (arith, view-room (c .before .before .before .before .before .before .before .before .before .before .before .before .before .before .before .before .before .before .before .before .before .before .before .before .args .reach) (widthOf (c .before .before .before .before .before .before .before .before .before .before .before .before .before .fetched .given .0 .0)) (c .before .before .before .before .before .before .before .before .before .before .before .before .before .before .before .before .before .before .before .before .before .before .loop .cells) (told saysReached (c .before .before .before .before .before .before .before .before .reach .ensures .0) (c .before .before .before .before .before .before .reached .given .1 ∙ ap reached.At (c .before .before .before .spot5 .given .1))), (c .before .before .before .before .before .before .before .before .before .before .before .before .before .before .before .before .before .before .before .before .before .before .loop .inv .0) .p-within)
+
+price-requires-12 : tie.Need-price-requires-12 Inv-loop μ-loop
+price-requires-12 c κs = c .before .before .before .before .before .before .before .before .before .before .before .before .before .before .before .before .before .before .before .before .before .before .loop .inv .1 .0
+
+counted-requires-13 : tie.Need-counted-requires-13 Inv-loop μ-loop
+counted-requires-13 c κs = ((found (c .before .before .before .before .before .before .before .before .before .before .before .before .before)) .less, ((omega (arith, (c .before .before .before .before .before .before .before .before .before .before .before .before .before .before .before .before .before .before .before .before .before .before .before .loop .inv .0) .priced, (c .before .before .before .before .before .before .before .before .before .before .before .before .before .before .before .before .before .before .before .before .before .before .before .loop .inv .0) .limit, (c .before .before .before .before .before .before .before .before .before .before .before .before .before .before .before .before .before .before .before .before .before .before .before .loop .inv .0) .left-within, (found (c .before .before .before .before .before .before .before .before .before .before .before .before .before)) .less)), c .price12 .ensures .1))
+
+loop-less-22 : tie.Need-loop-less-22 Inv-loop μ-loop
+loop-less-22 c = omega (arith, c .counted13 .ensures .1)
+
+loop-again-22 : tie.Need-loop-again-22 Inv-loop μ-loop
+loop-again-22 c = (goes (found (c .before .before .before .before .before .before .before .before .before .before .before .before .before .before)) (fetch-acts (found (c .before .before .before .before .before .before .before .before .before .before .before .before .before .before)) (c .before .before .before .before .before .before .before .before .before .before .before .before .match3 .keys7)) (told saysReached (c .before .before .before .before .before .before .before .before .before .before .reach .ensures .0) (c .before .before .before .before .before .before .before .before .reached .given .1 ∙ ap reached.At (c .before .before .before .before .before .spot5 .given .1))) (ap (fetchedAs (found (c .before .before .before .before .before .before .before .before .before .before .before .before .before .before))) (sym (c .before .before .read-in-view .ensures (c .before .before .before .before .before .before .before .before .before .before .before .before .before .before .before .before .before .before .before .before .before .before .before .before .loop .copies) (c .before .before .before .before .before .before .before .before .before .before .before .before .before .before .before .before .before .before .before .before .before .before .before .before .loop .inv .1 .1)))) refl (c .before .price12 .ensures .0) (c .counted13 .ensures .0), (c .before .before .before .before .before .before .before .before .before .before .before .before .before .before .before .before .before .before .before .before .before .before .before .before .loop .inv .1))
 
 reach-requires-2 : tie.Need-reach-requires-2 Inv-loop μ-loop
 reach-requires-2 c κs = (omega arith, ((c .before .before .before .before .before .before .before .before .before .before .before .before .before .loop .inv .0) .p-within, c .before .before .before .before .before .before .before .before .before .before .before .before .before .before .before .pre .bounded .shared-within))
@@ -590,59 +619,29 @@ enum-told-14 c = search needs
 by-reach-requires-2 : tie.Need-by-reach-requires-2 Inv-loop μ-loop
 by-reach-requires-2 c κs = search needs
 
-loop-less-22 : tie.Need-loop-less-22 Inv-loop μ-loop
-loop-less-22 c = halted-less (c .before .before .before .before .before .before .before .before .before .before .before .before .before .before .before .before .before .loop .regs) (c .by-reach2 .ensures) (ap saysReached (c .before .enum-told14 .given .1)) ((found (c .before .before .before .before .before .before .before)) .less)
-
-loop-again-22 : tie.Need-loop-again-22 Inv-loop μ-loop
-loop-again-22 c = (ends (found (c .before .before .before .before .before .before .before)) (store-acts (found (c .before .before .before .before .before .before .before)) (c .before .before .before .before .before .match3 .keys8)) (told saysReached (c .before .before .before .reach2 .ensures .0) (c .before .enum-told14 .given .1)) (c .before .before .before .reach2 .ensures .0) (c .by-reach2 .ensures), (c .before .before .before .before .before .before .before .before .before .before .before .before .before .before .before .before .before .loop .inv .1))
-
-enum-known-spot-5 : tie.Need-enum-known-spot-5 Inv-loop μ-loop
-enum-known-spot-5 c = search needs
-
-sub-write-number : tie.Need-sub-write-number Inv-loop μ-loop
-sub-write-number c = omega (arith, memory-room (c .before .before .before .before .before .before .before .before .before .before .before .before .before .before .before .before .before .before .before .before .before .before .before .args .reach) (widthOf (c .before .before .before .before .before .before .before .before .before .before .before .before .fetched .given .0 .0)) (c .before .before .before .before .before .before .before .before .before .before .before .before .before .before .before .before .before .before .before .before .before .loop .cells) (told saysReached (c .before .before .before .before .before .before .before .reach2 .ensures .0) (c .before .before .before .before .before .reached2 .given .1 ∙ ap reached.At (c .before .before .spot5 .given .1))))
-
-mul-write-number : tie.Need-mul-write-number Inv-loop μ-loop
-mul-write-number c = omega (arith, memory-room (c .before .before .before .before .before .before .before .before .before .before .before .before .before .before .before .before .before .before .before .before .before .before .before .args .reach) (widthOf (c .before .before .before .before .before .before .before .before .before .before .before .before .fetched .given .0 .0)) (c .before .before .before .before .before .before .before .before .before .before .before .before .before .before .before .before .before .before .before .before .before .loop .cells) (told saysReached (c .before .before .before .before .before .before .before .reach2 .ensures .0) (c .before .before .before .before .before .reached2 .given .1 ∙ ap reached.At (c .before .before .spot5 .given .1))))
-
-element-copy-out-write-number : tie.Need-element-copy-out-write-number Inv-loop μ-loop
-element-copy-out-write-number c = omega (arith, memory-room (c .before .before .before .before .before .before .before .before .before .before .before .before .before .before .before .before .before .before .before .before .before .before .before .args .reach) (widthOf (c .before .before .before .before .before .before .before .before .before .before .before .before .fetched .given .0 .0)) (c .before .before .before .before .before .before .before .before .before .before .before .before .before .before .before .before .before .before .before .before .before .loop .cells) (told saysReached (c .before .before .before .before .before .before .before .reach2 .ensures .0) (c .before .before .before .before .before .reached2 .given .1 ∙ ap reached.At (c .before .before .spot5 .given .1))))
-
-write-number-requires : tie.Need-write-number-requires Inv-loop μ-loop
-write-number-requires c κs = omega (arith, memory-room (c .before .before .before .before .before .before .before .before .before .before .before .before .before .before .before .before .before .before .before .before .before .before .before .before .args .reach) (widthOf (c .before .before .before .before .before .before .before .before .before .before .before .before .before .fetched .given .0 .0)) (c .before .before .before .before .before .before .before .before .before .before .before .before .before .before .before .before .before .before .before .before .before .before .loop .cells) (told saysReached (c .before .before .before .before .before .before .before .before .reach2 .ensures .0) (c .before .before .before .before .before .before .reached2 .given .1 ∙ ap reached.At (c .before .before .before .spot5 .given .1))), (c .before .before .before .before .before .before .before .before .before .before .before .before .before .before .before .before .before .before .before .before .before .before .loop .inv .0) .long)
-
-sub-regs-6 : tie.Need-sub-regs-6 Inv-loop μ-loop
-sub-regs-6 c = omega (arith, memory-room (c .before .before .before .before .before .before .before .before .before .before .before .before .before .before .before .before .before .before .before .before .before .before .before .before .before .before .before .args .reach) (widthOf (c .before .before .before .before .before .before .before .before .before .before .before .before .before .before .before .before .fetched .given .0 .0)) (c .before .before .before .before .before .before .before .before .before .before .before .before .before .before .before .before .before .before .before .before .before .before .before .before .before .loop .cells) (told saysReached (c .before .before .before .before .before .before .before .before .before .before .before .reach2 .ensures .0) (c .before .before .before .before .before .before .before .before .before .reached2 .given .1 ∙ ap reached.At (c .before .before .before .before .before .before .spot5 .given .1))))
-
-price-requires-12 : tie.Need-price-requires-12 Inv-loop μ-loop
-price-requires-12 c κs = c .before .before .before .before .before .before .before .before .before .before .before .before .before .before .before .before .before .before .before .before .before .before .before .before .before .loop .inv .1 .0
-
-counted-requires-13 : tie.Need-counted-requires-13 Inv-loop μ-loop
-counted-requires-13 c κs = ((found (c .before .before .before .before .before .before .before .before .before .before .before .before .before .before .before .before)) .less, ((omega (arith, (c .before .before .before .before .before .before .before .before .before .before .before .before .before .before .before .before .before .before .before .before .before .before .before .before .before .before .loop .inv .0) .priced, (c .before .before .before .before .before .before .before .before .before .before .before .before .before .before .before .before .before .before .before .before .before .before .before .before .before .before .loop .inv .0) .limit, (c .before .before .before .before .before .before .before .before .before .before .before .before .before .before .before .before .before .before .before .before .before .before .before .before .before .before .loop .inv .0) .left-within, (found (c .before .before .before .before .before .before .before .before .before .before .before .before .before .before .before .before)) .less)), c .price12 .ensures .1))
-
 loop-less-23 : tie.Need-loop-less-23 Inv-loop μ-loop
-loop-less-23 c = omega (arith, c .counted13 .ensures .1)
+loop-less-23 c = halted-less (c .before .before .before .before .before .before .before .before .before .before .before .before .before .before .before .before .before .loop .regs) (c .by-reach2 .ensures) (ap saysReached (c .before .enum-told14 .given .1)) ((found (c .before .before .before .before .before .before .before)) .less)
 
 loop-again-23 : tie.Need-loop-again-23 Inv-loop μ-loop
-loop-again-23 c = (goes (found (c .before .before .before .before .before .before .before .before .before .before .before .before .before .before .before .before .before)) (store-acts (found (c .before .before .before .before .before .before .before .before .before .before .before .before .before .before .before .before .before)) (c .before .before .before .before .before .before .before .before .before .before .before .before .before .before .before .match3 .keys8)) (told saysReached (c .before .before .before .before .before .before .before .before .before .before .before .before .before .reach2 .ensures .0) (c .before .before .before .before .before .before .before .before .before .before .before .reached2 .given .1 ∙ ap reached.At (c .before .before .before .before .before .before .before .before .spot5 .given .1))) (written-there (found (c .before .before .before .before .before .before .before .before .before .before .before .before .before .before .before .before .before)) (widthOf (c .before .before .before .before .before .before .before .before .before .before .before .before .before .before .before .before .before .before .fetched .given .0 .0)) (c .before .before .before .before .before .before .before .before .spot5 .given .0 .0) (c .before .before .before .before .write-number .ensures)) refl (c .before .price12 .ensures .0) (c .counted13 .ensures .0), (c .before .before .before .before .before .before .before .before .before .before .before .before .before .before .before .before .before .before .before .before .before .before .before .before .before .before .before .loop .inv .1))
+loop-again-23 c = (ends (found (c .before .before .before .before .before .before .before)) (store-acts (found (c .before .before .before .before .before .before .before)) (c .before .before .before .before .before .match3 .keys8)) (told saysReached (c .before .before .before .reach2 .ensures .0) (c .before .enum-told14 .given .1)) (c .before .before .before .reach2 .ensures .0) (c .by-reach2 .ensures), (c .before .before .before .before .before .before .before .before .before .before .before .before .before .before .before .before .before .loop .inv .1))
 
 enum-known-spot-6 : tie.Need-enum-known-spot-6 Inv-loop μ-loop
 enum-known-spot-6 c = search needs
 
-sub-write-own : tie.Need-sub-write-own Inv-loop μ-loop
-sub-write-own c = omega (arith, memory-room (c .before .before .before .before .before .before .before .before .before .before .before .before .before .before .before .before .before .before .before .before .before .before .before .args .reach) (widthOf (c .before .before .before .before .before .before .before .before .before .before .before .before .fetched .given .0 .0)) (c .before .before .before .before .before .before .before .before .before .before .before .before .before .before .before .before .before .before .before .before .before .loop .cells) (told saysReached (c .before .before .before .before .before .before .before .reach2 .ensures .0) (c .before .before .before .before .before .reached2 .given .1 ∙ ap reached.At (c .before .before .spot6 .given .1))))
+sub-write-number : tie.Need-sub-write-number Inv-loop μ-loop
+sub-write-number c = omega (arith, memory-room (c .before .before .before .before .before .before .before .before .before .before .before .before .before .before .before .before .before .before .before .before .before .before .before .args .reach) (widthOf (c .before .before .before .before .before .before .before .before .before .before .before .before .fetched .given .0 .0)) (c .before .before .before .before .before .before .before .before .before .before .before .before .before .before .before .before .before .before .before .before .before .loop .cells) (told saysReached (c .before .before .before .before .before .before .before .reach2 .ensures .0) (c .before .before .before .before .before .reached2 .given .1 ∙ ap reached.At (c .before .before .spot6 .given .1))))
 
-mul-write-own : tie.Need-mul-write-own Inv-loop μ-loop
-mul-write-own c = omega (arith, memory-room (c .before .before .before .before .before .before .before .before .before .before .before .before .before .before .before .before .before .before .before .before .before .before .before .args .reach) (widthOf (c .before .before .before .before .before .before .before .before .before .before .before .before .fetched .given .0 .0)) (c .before .before .before .before .before .before .before .before .before .before .before .before .before .before .before .before .before .before .before .before .before .loop .cells) (told saysReached (c .before .before .before .before .before .before .before .reach2 .ensures .0) (c .before .before .before .before .before .reached2 .given .1 ∙ ap reached.At (c .before .before .spot6 .given .1))))
+mul-write-number : tie.Need-mul-write-number Inv-loop μ-loop
+mul-write-number c = omega (arith, memory-room (c .before .before .before .before .before .before .before .before .before .before .before .before .before .before .before .before .before .before .before .before .before .before .before .args .reach) (widthOf (c .before .before .before .before .before .before .before .before .before .before .before .before .fetched .given .0 .0)) (c .before .before .before .before .before .before .before .before .before .before .before .before .before .before .before .before .before .before .before .before .before .loop .cells) (told saysReached (c .before .before .before .before .before .before .before .reach2 .ensures .0) (c .before .before .before .before .before .reached2 .given .1 ∙ ap reached.At (c .before .before .spot6 .given .1))))
 
-element-copy-out-write-own : tie.Need-element-copy-out-write-own Inv-loop μ-loop
-element-copy-out-write-own c = omega (arith, memory-room (c .before .before .before .before .before .before .before .before .before .before .before .before .before .before .before .before .before .before .before .before .before .before .before .args .reach) (widthOf (c .before .before .before .before .before .before .before .before .before .before .before .before .fetched .given .0 .0)) (c .before .before .before .before .before .before .before .before .before .before .before .before .before .before .before .before .before .before .before .before .before .loop .cells) (told saysReached (c .before .before .before .before .before .before .before .reach2 .ensures .0) (c .before .before .before .before .before .reached2 .given .1 ∙ ap reached.At (c .before .before .spot6 .given .1))))
+element-copy-out-write-number : tie.Need-element-copy-out-write-number Inv-loop μ-loop
+element-copy-out-write-number c = omega (arith, memory-room (c .before .before .before .before .before .before .before .before .before .before .before .before .before .before .before .before .before .before .before .before .before .before .before .args .reach) (widthOf (c .before .before .before .before .before .before .before .before .before .before .before .before .fetched .given .0 .0)) (c .before .before .before .before .before .before .before .before .before .before .before .before .before .before .before .before .before .before .before .before .before .loop .cells) (told saysReached (c .before .before .before .before .before .before .before .reach2 .ensures .0) (c .before .before .before .before .before .reached2 .given .1 ∙ ap reached.At (c .before .before .spot6 .given .1))))
 
-write-own-requires : tie.Need-write-own-requires Inv-loop μ-loop
-write-own-requires c κs = ((own-room (c .before .before .before .before .before .before .before .before .before .before .before .before .before .before .before .before .before .before .before .before .before .before .before .before .args .reach) (widthOf (c .before .before .before .before .before .before .before .before .before .before .before .before .before .fetched .given .0 .0)) (c .before .before .before .before .before .before .before .before .reach2 .ensures .1) (c .before .before .before .before .before .before .reached2 .given .1 ∙ ap reached.At (c .before .before .before .spot6 .given .1))) .0, ((own-room (c .before .before .before .before .before .before .before .before .before .before .before .before .before .before .before .before .before .before .before .before .before .before .before .before .args .reach) (widthOf (c .before .before .before .before .before .before .before .before .before .before .before .before .before .fetched .given .0 .0)) (c .before .before .before .before .before .before .before .before .reach2 .ensures .1) (c .before .before .before .before .before .before .reached2 .given .1 ∙ ap reached.At (c .before .before .before .spot6 .given .1))) .1, omega (arith, c .before .before .before .before .before .before .before .before .before .before .before .before .before .before .before .before .before .before .before .before .before .before .before .before .pre .bounded .end-within, (c .before .before .before .before .before .before .before .before .before .before .before .before .before .before .before .before .before .before .before .before .before .before .loop .inv .0) .long)))
+write-number-requires : tie.Need-write-number-requires Inv-loop μ-loop
+write-number-requires c κs = omega (arith, memory-room (c .before .before .before .before .before .before .before .before .before .before .before .before .before .before .before .before .before .before .before .before .before .before .before .before .args .reach) (widthOf (c .before .before .before .before .before .before .before .before .before .before .before .before .before .fetched .given .0 .0)) (c .before .before .before .before .before .before .before .before .before .before .before .before .before .before .before .before .before .before .before .before .before .before .loop .cells) (told saysReached (c .before .before .before .before .before .before .before .before .reach2 .ensures .0) (c .before .before .before .before .before .before .reached2 .given .1 ∙ ap reached.At (c .before .before .before .spot6 .given .1))), (c .before .before .before .before .before .before .before .before .before .before .before .before .before .before .before .before .before .before .before .before .before .before .loop .inv .0) .long)
 
-sub-regs-7 : tie.Need-sub-regs-7 Inv-loop μ-loop
-sub-regs-7 c = omega (arith, memory-room (c .before .before .before .before .before .before .before .before .before .before .before .before .before .before .before .before .before .before .before .before .before .before .before .before .before .before .before .args .reach) (widthOf (c .before .before .before .before .before .before .before .before .before .before .before .before .before .before .before .before .fetched .given .0 .0)) (c .before .before .before .before .before .before .before .before .before .before .before .before .before .before .before .before .before .before .before .before .before .before .before .before .before .loop .cells) (told saysReached (c .before .before .before .before .before .before .before .before .before .before .before .reach2 .ensures .0) (c .before .before .before .before .before .before .before .before .before .reached2 .given .1 ∙ ap reached.At (c .before .before .before .before .before .before .spot6 .given .1))))
+sub-regs-6 : tie.Need-sub-regs-6 Inv-loop μ-loop
+sub-regs-6 c = omega (arith, memory-room (c .before .before .before .before .before .before .before .before .before .before .before .before .before .before .before .before .before .before .before .before .before .before .before .before .before .before .before .args .reach) (widthOf (c .before .before .before .before .before .before .before .before .before .before .before .before .before .before .before .before .fetched .given .0 .0)) (c .before .before .before .before .before .before .before .before .before .before .before .before .before .before .before .before .before .before .before .before .before .before .before .before .before .loop .cells) (told saysReached (c .before .before .before .before .before .before .before .before .before .before .before .reach2 .ensures .0) (c .before .before .before .before .before .before .before .before .before .reached2 .given .1 ∙ ap reached.At (c .before .before .before .before .before .before .spot6 .given .1))))
 
 price-requires-13 : tie.Need-price-requires-13 Inv-loop μ-loop
 price-requires-13 c κs = c .before .before .before .before .before .before .before .before .before .before .before .before .before .before .before .before .before .before .before .before .before .before .before .before .before .loop .inv .1 .0
@@ -654,55 +653,55 @@ loop-less-24 : tie.Need-loop-less-24 Inv-loop μ-loop
 loop-less-24 c = omega (arith, c .counted14 .ensures .1)
 
 loop-again-24 : tie.Need-loop-again-24 Inv-loop μ-loop
-loop-again-24 c = (goes (found (c .before .before .before .before .before .before .before .before .before .before .before .before .before .before .before .before .before)) (store-acts (found (c .before .before .before .before .before .before .before .before .before .before .before .before .before .before .before .before .before)) (c .before .before .before .before .before .before .before .before .before .before .before .before .before .before .before .match3 .keys8)) (told saysReached (c .before .before .before .before .before .before .before .before .before .before .before .before .before .reach2 .ensures .0) (c .before .before .before .before .before .before .before .before .before .before .before .reached2 .given .1 ∙ ap reached.At (c .before .before .before .before .before .before .before .before .spot6 .given .1))) (written-there (found (c .before .before .before .before .before .before .before .before .before .before .before .before .before .before .before .before .before)) (widthOf (c .before .before .before .before .before .before .before .before .before .before .before .before .before .before .before .before .before .before .fetched .given .0 .0)) (c .before .before .before .before .before .before .before .before .spot6 .given .0 .0) (c .before .before .before .before .write-own .ensures)) refl (c .before .price13 .ensures .0) (c .counted14 .ensures .0), (c .before .before .before .before .before .before .before .before .before .before .before .before .before .before .before .before .before .before .before .before .before .before .before .before .before .before .before .loop .inv .1))
+loop-again-24 c = (goes (found (c .before .before .before .before .before .before .before .before .before .before .before .before .before .before .before .before .before)) (store-acts (found (c .before .before .before .before .before .before .before .before .before .before .before .before .before .before .before .before .before)) (c .before .before .before .before .before .before .before .before .before .before .before .before .before .before .before .match3 .keys8)) (told saysReached (c .before .before .before .before .before .before .before .before .before .before .before .before .before .reach2 .ensures .0) (c .before .before .before .before .before .before .before .before .before .before .before .reached2 .given .1 ∙ ap reached.At (c .before .before .before .before .before .before .before .before .spot6 .given .1))) (written-there (found (c .before .before .before .before .before .before .before .before .before .before .before .before .before .before .before .before .before)) (widthOf (c .before .before .before .before .before .before .before .before .before .before .before .before .before .before .before .before .before .before .fetched .given .0 .0)) (c .before .before .before .before .before .before .before .before .spot6 .given .0 .0) (c .before .before .before .before .write-number .ensures)) refl (c .before .price13 .ensures .0) (c .counted14 .ensures .0), (c .before .before .before .before .before .before .before .before .before .before .before .before .before .before .before .before .before .before .before .before .before .before .before .before .before .before .before .loop .inv .1))
 
 enum-known-spot-7 : tie.Need-enum-known-spot-7 Inv-loop μ-loop
 enum-known-spot-7 c = search needs
 
-sub-set-local : tie.Need-sub-set-local Inv-loop μ-loop
-sub-set-local c = omega (arith, local-room (c .before .before .before .before .before .before .before .before .before .before .before .before .before .before .before .before .before .before .before .before .before .before .before .args .reach) (widthOf (c .before .before .before .before .before .before .before .before .before .before .before .before .fetched .given .0 .0)) (c .before .before .before .before .before .before .before .before .before .before .before .before .before .before .before .before .before .before .before .before .before .loop .cells) (told saysReached (c .before .before .before .before .before .before .before .reach2 .ensures .0) (c .before .before .before .before .before .reached2 .given .1 ∙ ap reached.At (c .before .before .spot7 .given .1))), (c .before .before .before .before .before .before .before .before .before .before .before .before .before .before .before .before .before .before .before .before .before .loop .inv .0) .p-within)
+sub-write-own : tie.Need-sub-write-own Inv-loop μ-loop
+sub-write-own c = omega (arith, memory-room (c .before .before .before .before .before .before .before .before .before .before .before .before .before .before .before .before .before .before .before .before .before .before .before .args .reach) (widthOf (c .before .before .before .before .before .before .before .before .before .before .before .before .fetched .given .0 .0)) (c .before .before .before .before .before .before .before .before .before .before .before .before .before .before .before .before .before .before .before .before .before .loop .cells) (told saysReached (c .before .before .before .before .before .before .before .reach2 .ensures .0) (c .before .before .before .before .before .reached2 .given .1 ∙ ap reached.At (c .before .before .spot7 .given .1))))
 
-mul-set-local : tie.Need-mul-set-local Inv-loop μ-loop
-mul-set-local c = omega (arith, local-room (c .before .before .before .before .before .before .before .before .before .before .before .before .before .before .before .before .before .before .before .before .before .before .before .args .reach) (widthOf (c .before .before .before .before .before .before .before .before .before .before .before .before .fetched .given .0 .0)) (c .before .before .before .before .before .before .before .before .before .before .before .before .before .before .before .before .before .before .before .before .before .loop .cells) (told saysReached (c .before .before .before .before .before .before .before .reach2 .ensures .0) (c .before .before .before .before .before .reached2 .given .1 ∙ ap reached.At (c .before .before .spot7 .given .1))), (c .before .before .before .before .before .before .before .before .before .before .before .before .before .before .before .before .before .before .before .before .before .loop .inv .0) .p-within)
+mul-write-own : tie.Need-mul-write-own Inv-loop μ-loop
+mul-write-own c = omega (arith, memory-room (c .before .before .before .before .before .before .before .before .before .before .before .before .before .before .before .before .before .before .before .before .before .before .before .args .reach) (widthOf (c .before .before .before .before .before .before .before .before .before .before .before .before .fetched .given .0 .0)) (c .before .before .before .before .before .before .before .before .before .before .before .before .before .before .before .before .before .before .before .before .before .loop .cells) (told saysReached (c .before .before .before .before .before .before .before .reach2 .ensures .0) (c .before .before .before .before .before .reached2 .given .1 ∙ ap reached.At (c .before .before .spot7 .given .1))))
 
-element-copy-out-set-local : tie.Need-element-copy-out-set-local Inv-loop μ-loop
-element-copy-out-set-local c = omega (arith, local-room (c .before .before .before .before .before .before .before .before .before .before .before .before .before .before .before .before .before .before .before .before .before .before .before .args .reach) (widthOf (c .before .before .before .before .before .before .before .before .before .before .before .before .fetched .given .0 .0)) (c .before .before .before .before .before .before .before .before .before .before .before .before .before .before .before .before .before .before .before .before .before .loop .cells) (told saysReached (c .before .before .before .before .before .before .before .reach2 .ensures .0) (c .before .before .before .before .before .reached2 .given .1 ∙ ap reached.At (c .before .before .spot7 .given .1))), (c .before .before .before .before .before .before .before .before .before .before .before .before .before .before .before .before .before .before .before .before .before .loop .inv .0) .p-within)
+element-copy-out-write-own : tie.Need-element-copy-out-write-own Inv-loop μ-loop
+element-copy-out-write-own c = omega (arith, memory-room (c .before .before .before .before .before .before .before .before .before .before .before .before .before .before .before .before .before .before .before .before .before .before .before .args .reach) (widthOf (c .before .before .before .before .before .before .before .before .before .before .before .before .fetched .given .0 .0)) (c .before .before .before .before .before .before .before .before .before .before .before .before .before .before .before .before .before .before .before .before .before .loop .cells) (told saysReached (c .before .before .before .before .before .before .before .reach2 .ensures .0) (c .before .before .before .before .before .reached2 .given .1 ∙ ap reached.At (c .before .before .spot7 .given .1))))
 
-set-local-requires : tie.Need-set-local-requires Inv-loop μ-loop
-set-local-requires c κs = (omega (arith, (c .before .before .before .before .before .before .before .before .before .before .before .before .before .before .before .before .before .before .before .before .before .before .loop .inv .0) .s-within), omega (arith, local-room (c .before .before .before .before .before .before .before .before .before .before .before .before .before .before .before .before .before .before .before .before .before .before .before .before .args .reach) (widthOf (c .before .before .before .before .before .before .before .before .before .before .before .before .before .fetched .given .0 .0)) (c .before .before .before .before .before .before .before .before .before .before .before .before .before .before .before .before .before .before .before .before .before .before .loop .cells) (told saysReached (c .before .before .before .before .before .before .before .before .reach2 .ensures .0) (c .before .before .before .before .before .before .reached2 .given .1 ∙ ap reached.At (c .before .before .before .spot7 .given .1)))))
+write-own-requires : tie.Need-write-own-requires Inv-loop μ-loop
+write-own-requires c κs = ((spot-within (c .before .before .before .before .before .before .before .before .before .before .before .before .before .before .before .before .before .before .before .before .before .before .before .before .args .reach) (widthOf (c .before .before .before .before .before .before .before .before .before .before .before .before .before .fetched .given .0 .0)) (c .before .before .before .before .before .before .before .before .reach2 .ensures .1) (c .before .before .before .before .before .before .reached2 .given .1 ∙ ap reached.At (c .before .before .before .spot7 .given .1))) .0, ((spot-within (c .before .before .before .before .before .before .before .before .before .before .before .before .before .before .before .before .before .before .before .before .before .before .before .before .args .reach) (widthOf (c .before .before .before .before .before .before .before .before .before .before .before .before .before .fetched .given .0 .0)) (c .before .before .before .before .before .before .before .before .reach2 .ensures .1) (c .before .before .before .before .before .before .reached2 .given .1 ∙ ap reached.At (c .before .before .before .spot7 .given .1))) .1, omega (arith, c .before .before .before .before .before .before .before .before .before .before .before .before .before .before .before .before .before .before .before .before .before .before .before .before .pre .bounded .end-within, (c .before .before .before .before .before .before .before .before .before .before .before .before .before .before .before .before .before .before .before .before .before .before .loop .inv .0) .long)))
 
-sub-regs-8 : tie.Need-sub-regs-8 Inv-loop μ-loop
-sub-regs-8 c = omega (arith, local-room (c .before .before .before .before .before .before .before .before .before .before .before .before .before .before .before .before .before .before .before .before .before .before .before .before .before .args .reach) (widthOf (c .before .before .before .before .before .before .before .before .before .before .before .before .before .before .fetched .given .0 .0)) (c .before .before .before .before .before .before .before .before .before .before .before .before .before .before .before .before .before .before .before .before .before .before .before .loop .cells) (told saysReached (c .before .before .before .before .before .before .before .before .before .reach2 .ensures .0) (c .before .before .before .before .before .before .before .reached2 .given .1 ∙ ap reached.At (c .before .before .before .before .spot7 .given .1))), (c .before .before .before .before .before .before .before .before .before .before .before .before .before .before .before .before .before .before .before .before .before .before .before .loop .inv .0) .p-within)
+sub-regs-7 : tie.Need-sub-regs-7 Inv-loop μ-loop
+sub-regs-7 c = omega (arith, memory-room (c .before .before .before .before .before .before .before .before .before .before .before .before .before .before .before .before .before .before .before .before .before .before .before .before .before .before .before .args .reach) (widthOf (c .before .before .before .before .before .before .before .before .before .before .before .before .before .before .before .before .fetched .given .0 .0)) (c .before .before .before .before .before .before .before .before .before .before .before .before .before .before .before .before .before .before .before .before .before .before .before .before .before .loop .cells) (told saysReached (c .before .before .before .before .before .before .before .before .before .before .before .reach2 .ensures .0) (c .before .before .before .before .before .before .before .before .before .reached2 .given .1 ∙ ap reached.At (c .before .before .before .before .before .before .spot7 .given .1))))
 
 price-requires-14 : tie.Need-price-requires-14 Inv-loop μ-loop
-price-requires-14 c κs = c .before .before .before .before .before .before .before .before .before .before .before .before .before .before .before .before .before .before .before .before .before .before .before .loop .inv .1 .0
+price-requires-14 c κs = c .before .before .before .before .before .before .before .before .before .before .before .before .before .before .before .before .before .before .before .before .before .before .before .before .before .loop .inv .1 .0
 
 counted-requires-15 : tie.Need-counted-requires-15 Inv-loop μ-loop
-counted-requires-15 c κs = ((found (c .before .before .before .before .before .before .before .before .before .before .before .before .before .before)) .less, ((omega (arith, (c .before .before .before .before .before .before .before .before .before .before .before .before .before .before .before .before .before .before .before .before .before .before .before .before .loop .inv .0) .priced, (c .before .before .before .before .before .before .before .before .before .before .before .before .before .before .before .before .before .before .before .before .before .before .before .before .loop .inv .0) .limit, (c .before .before .before .before .before .before .before .before .before .before .before .before .before .before .before .before .before .before .before .before .before .before .before .before .loop .inv .0) .left-within, (found (c .before .before .before .before .before .before .before .before .before .before .before .before .before .before)) .less)), c .price14 .ensures .1))
+counted-requires-15 c κs = ((found (c .before .before .before .before .before .before .before .before .before .before .before .before .before .before .before .before)) .less, ((omega (arith, (c .before .before .before .before .before .before .before .before .before .before .before .before .before .before .before .before .before .before .before .before .before .before .before .before .before .before .loop .inv .0) .priced, (c .before .before .before .before .before .before .before .before .before .before .before .before .before .before .before .before .before .before .before .before .before .before .before .before .before .before .loop .inv .0) .limit, (c .before .before .before .before .before .before .before .before .before .before .before .before .before .before .before .before .before .before .before .before .before .before .before .before .before .before .loop .inv .0) .left-within, (found (c .before .before .before .before .before .before .before .before .before .before .before .before .before .before .before .before)) .less)), c .price14 .ensures .1))
 
 loop-less-25 : tie.Need-loop-less-25 Inv-loop μ-loop
 loop-less-25 c = omega (arith, c .counted15 .ensures .1)
 
 loop-again-25 : tie.Need-loop-again-25 Inv-loop μ-loop
-loop-again-25 c = (goes (found (c .before .before .before .before .before .before .before .before .before .before .before .before .before .before .before)) (store-acts (found (c .before .before .before .before .before .before .before .before .before .before .before .before .before .before .before)) (c .before .before .before .before .before .before .before .before .before .before .before .before .before .match3 .keys8)) (told saysReached (c .before .before .before .before .before .before .before .before .before .before .before .reach2 .ensures .0) (c .before .before .before .before .before .before .before .before .before .reached2 .given .1 ∙ ap reached.At (c .before .before .before .before .before .before .spot7 .given .1))) (held-there (c .before .before .set-local .ensures (c .before .before .before .before .before .before .before .before .before .before .before .before .before .before .before .before .before .before .before .before .before .before .before .before .before .loop .copies) (c .before .before .before .before .before .before .before .before .before .before .before .before .before .before .before .before .before .before .before .before .before .before .before .before .before .loop .inv .1 .1))) refl (c .before .price14 .ensures .0) (c .counted15 .ensures .0), (c .before .before .before .before .before .before .before .before .before .before .before .before .before .before .before .before .before .before .before .before .before .before .before .before .before .loop .inv .1 .0, (c .before .before .set-local .ensures (c .before .before .before .before .before .before .before .before .before .before .before .before .before .before .before .before .before .before .before .before .before .before .before .before .before .loop .copies) (c .before .before .before .before .before .before .before .before .before .before .before .before .before .before .before .before .before .before .before .before .before .before .before .before .before .loop .inv .1 .1)) .laid))
+loop-again-25 c = (goes (found (c .before .before .before .before .before .before .before .before .before .before .before .before .before .before .before .before .before)) (store-acts (found (c .before .before .before .before .before .before .before .before .before .before .before .before .before .before .before .before .before)) (c .before .before .before .before .before .before .before .before .before .before .before .before .before .before .before .match3 .keys8)) (told saysReached (c .before .before .before .before .before .before .before .before .before .before .before .before .before .reach2 .ensures .0) (c .before .before .before .before .before .before .before .before .before .before .before .reached2 .given .1 ∙ ap reached.At (c .before .before .before .before .before .before .before .before .spot7 .given .1))) (written-there (found (c .before .before .before .before .before .before .before .before .before .before .before .before .before .before .before .before .before)) (widthOf (c .before .before .before .before .before .before .before .before .before .before .before .before .before .before .before .before .before .before .fetched .given .0 .0)) (c .before .before .before .before .before .before .before .before .spot7 .given .0 .0) (c .before .before .before .before .write-own .ensures)) refl (c .before .price14 .ensures .0) (c .counted15 .ensures .0), (c .before .before .before .before .before .before .before .before .before .before .before .before .before .before .before .before .before .before .before .before .before .before .before .before .before .before .before .loop .inv .1))
 
 enum-known-spot-8 : tie.Need-enum-known-spot-8 Inv-loop μ-loop
 enum-known-spot-8 c = search needs
 
-sub-set-cell : tie.Need-sub-set-cell Inv-loop μ-loop
-sub-set-cell c = omega (arith, cell-room (c .before .before .before .before .before .before .before .before .before .before .before .before .before .before .before .before .before .before .before .before .before .before .before .args .reach) (widthOf (c .before .before .before .before .before .before .before .before .before .before .before .before .fetched .given .0 .0)) (c .before .before .before .before .before .before .before .before .before .before .before .before .before .before .before .before .before .before .before .before .before .loop .cells) (told saysReached (c .before .before .before .before .before .before .before .reach2 .ensures .0) (c .before .before .before .before .before .reached2 .given .1 ∙ ap reached.At (c .before .before .spot8 .given .1))), (c .before .before .before .before .before .before .before .before .before .before .before .before .before .before .before .before .before .before .before .before .before .loop .inv .0) .p-within)
+sub-set-local : tie.Need-sub-set-local Inv-loop μ-loop
+sub-set-local c = omega (arith, view-room (c .before .before .before .before .before .before .before .before .before .before .before .before .before .before .before .before .before .before .before .before .before .before .before .args .reach) (widthOf (c .before .before .before .before .before .before .before .before .before .before .before .before .fetched .given .0 .0)) (c .before .before .before .before .before .before .before .before .before .before .before .before .before .before .before .before .before .before .before .before .before .loop .cells) (told saysReached (c .before .before .before .before .before .before .before .reach2 .ensures .0) (c .before .before .before .before .before .reached2 .given .1 ∙ ap reached.At (c .before .before .spot8 .given .1))), (c .before .before .before .before .before .before .before .before .before .before .before .before .before .before .before .before .before .before .before .before .before .loop .inv .0) .p-within)
 
-mul-set-cell : tie.Need-mul-set-cell Inv-loop μ-loop
-mul-set-cell c = omega (arith, cell-room (c .before .before .before .before .before .before .before .before .before .before .before .before .before .before .before .before .before .before .before .before .before .before .before .args .reach) (widthOf (c .before .before .before .before .before .before .before .before .before .before .before .before .fetched .given .0 .0)) (c .before .before .before .before .before .before .before .before .before .before .before .before .before .before .before .before .before .before .before .before .before .loop .cells) (told saysReached (c .before .before .before .before .before .before .before .reach2 .ensures .0) (c .before .before .before .before .before .reached2 .given .1 ∙ ap reached.At (c .before .before .spot8 .given .1))), (c .before .before .before .before .before .before .before .before .before .before .before .before .before .before .before .before .before .before .before .before .before .loop .inv .0) .p-within)
+mul-set-local : tie.Need-mul-set-local Inv-loop μ-loop
+mul-set-local c = omega (arith, view-room (c .before .before .before .before .before .before .before .before .before .before .before .before .before .before .before .before .before .before .before .before .before .before .before .args .reach) (widthOf (c .before .before .before .before .before .before .before .before .before .before .before .before .fetched .given .0 .0)) (c .before .before .before .before .before .before .before .before .before .before .before .before .before .before .before .before .before .before .before .before .before .loop .cells) (told saysReached (c .before .before .before .before .before .before .before .reach2 .ensures .0) (c .before .before .before .before .before .reached2 .given .1 ∙ ap reached.At (c .before .before .spot8 .given .1))), (c .before .before .before .before .before .before .before .before .before .before .before .before .before .before .before .before .before .before .before .before .before .loop .inv .0) .p-within)
 
-element-copy-out-set-cell : tie.Need-element-copy-out-set-cell Inv-loop μ-loop
-element-copy-out-set-cell c = omega (arith, cell-room (c .before .before .before .before .before .before .before .before .before .before .before .before .before .before .before .before .before .before .before .before .before .before .before .args .reach) (widthOf (c .before .before .before .before .before .before .before .before .before .before .before .before .fetched .given .0 .0)) (c .before .before .before .before .before .before .before .before .before .before .before .before .before .before .before .before .before .before .before .before .before .loop .cells) (told saysReached (c .before .before .before .before .before .before .before .reach2 .ensures .0) (c .before .before .before .before .before .reached2 .given .1 ∙ ap reached.At (c .before .before .spot8 .given .1))), (c .before .before .before .before .before .before .before .before .before .before .before .before .before .before .before .before .before .before .before .before .before .loop .inv .0) .p-within)
+element-copy-out-set-local : tie.Need-element-copy-out-set-local Inv-loop μ-loop
+element-copy-out-set-local c = omega (arith, view-room (c .before .before .before .before .before .before .before .before .before .before .before .before .before .before .before .before .before .before .before .before .before .before .before .args .reach) (widthOf (c .before .before .before .before .before .before .before .before .before .before .before .before .fetched .given .0 .0)) (c .before .before .before .before .before .before .before .before .before .before .before .before .before .before .before .before .before .before .before .before .before .loop .cells) (told saysReached (c .before .before .before .before .before .before .before .reach2 .ensures .0) (c .before .before .before .before .before .reached2 .given .1 ∙ ap reached.At (c .before .before .spot8 .given .1))), (c .before .before .before .before .before .before .before .before .before .before .before .before .before .before .before .before .before .before .before .before .before .loop .inv .0) .p-within)
 
-set-cell-requires : tie.Need-set-cell-requires Inv-loop μ-loop
-set-cell-requires c κs = (omega (arith, (c .before .before .before .before .before .before .before .before .before .before .before .before .before .before .before .before .before .before .before .before .before .before .loop .inv .0) .e-within), omega (arith, cell-room (c .before .before .before .before .before .before .before .before .before .before .before .before .before .before .before .before .before .before .before .before .before .before .before .before .args .reach) (widthOf (c .before .before .before .before .before .before .before .before .before .before .before .before .before .fetched .given .0 .0)) (c .before .before .before .before .before .before .before .before .before .before .before .before .before .before .before .before .before .before .before .before .before .before .loop .cells) (told saysReached (c .before .before .before .before .before .before .before .before .reach2 .ensures .0) (c .before .before .before .before .before .before .reached2 .given .1 ∙ ap reached.At (c .before .before .before .spot8 .given .1)))))
+set-local-requires : tie.Need-set-local-requires Inv-loop μ-loop
+set-local-requires c κs = ((omega (arith, (c .before .before .before .before .before .before .before .before .before .before .before .before .before .before .before .before .before .before .before .before .before .before .loop .inv .0) .s-within)), (spot-within (c .before .before .before .before .before .before .before .before .before .before .before .before .before .before .before .before .before .before .before .before .before .before .before .before .args .reach) (widthOf (c .before .before .before .before .before .before .before .before .before .before .before .before .before .fetched .given .0 .0)) (c .before .before .before .before .before .before .before .before .reach2 .ensures .1) (c .before .before .before .before .before .before .reached2 .given .1 ∙ ap reached.At (c .before .before .before .spot8 .given .1))) .1)
 
-sub-regs-9 : tie.Need-sub-regs-9 Inv-loop μ-loop
-sub-regs-9 c = omega (arith, cell-room (c .before .before .before .before .before .before .before .before .before .before .before .before .before .before .before .before .before .before .before .before .before .before .before .before .before .args .reach) (widthOf (c .before .before .before .before .before .before .before .before .before .before .before .before .before .before .fetched .given .0 .0)) (c .before .before .before .before .before .before .before .before .before .before .before .before .before .before .before .before .before .before .before .before .before .before .before .loop .cells) (told saysReached (c .before .before .before .before .before .before .before .before .before .reach2 .ensures .0) (c .before .before .before .before .before .before .before .reached2 .given .1 ∙ ap reached.At (c .before .before .before .before .spot8 .given .1))), (c .before .before .before .before .before .before .before .before .before .before .before .before .before .before .before .before .before .before .before .before .before .before .before .loop .inv .0) .p-within)
+sub-regs-8 : tie.Need-sub-regs-8 Inv-loop μ-loop
+sub-regs-8 c = omega (arith, view-room (c .before .before .before .before .before .before .before .before .before .before .before .before .before .before .before .before .before .before .before .before .before .before .before .before .before .args .reach) (widthOf (c .before .before .before .before .before .before .before .before .before .before .before .before .before .before .fetched .given .0 .0)) (c .before .before .before .before .before .before .before .before .before .before .before .before .before .before .before .before .before .before .before .before .before .before .before .loop .cells) (told saysReached (c .before .before .before .before .before .before .before .before .before .reach2 .ensures .0) (c .before .before .before .before .before .before .before .reached2 .given .1 ∙ ap reached.At (c .before .before .before .before .spot8 .given .1))), (c .before .before .before .before .before .before .before .before .before .before .before .before .before .before .before .before .before .before .before .before .before .before .before .loop .inv .0) .p-within)
 
 price-requires-15 : tie.Need-price-requires-15 Inv-loop μ-loop
 price-requires-15 c κs = c .before .before .before .before .before .before .before .before .before .before .before .before .before .before .before .before .before .before .before .before .before .before .before .loop .inv .1 .0
@@ -714,7 +713,67 @@ loop-less-26 : tie.Need-loop-less-26 Inv-loop μ-loop
 loop-less-26 c = omega (arith, c .counted16 .ensures .1)
 
 loop-again-26 : tie.Need-loop-again-26 Inv-loop μ-loop
-loop-again-26 c = (goes (found (c .before .before .before .before .before .before .before .before .before .before .before .before .before .before .before)) (store-acts (found (c .before .before .before .before .before .before .before .before .before .before .before .before .before .before .before)) (c .before .before .before .before .before .before .before .before .before .before .before .before .before .match3 .keys8)) (told saysReached (c .before .before .before .before .before .before .before .before .before .before .before .reach2 .ensures .0) (c .before .before .before .before .before .before .before .before .before .reached2 .given .1 ∙ ap reached.At (c .before .before .before .before .before .before .spot8 .given .1))) (held-there (c .before .before .set-cell .ensures (c .before .before .before .before .before .before .before .before .before .before .before .before .before .before .before .before .before .before .before .before .before .before .before .before .before .loop .copies) (c .before .before .before .before .before .before .before .before .before .before .before .before .before .before .before .before .before .before .before .before .before .before .before .before .before .loop .inv .1 .1))) refl (c .before .price15 .ensures .0) (c .counted16 .ensures .0), (c .before .before .before .before .before .before .before .before .before .before .before .before .before .before .before .before .before .before .before .before .before .before .before .before .before .loop .inv .1 .0, (c .before .before .set-cell .ensures (c .before .before .before .before .before .before .before .before .before .before .before .before .before .before .before .before .before .before .before .before .before .before .before .before .before .loop .copies) (c .before .before .before .before .before .before .before .before .before .before .before .before .before .before .before .before .before .before .before .before .before .before .before .before .before .loop .inv .1 .1)) .laid))
+loop-again-26 c = (goes (found (c .before .before .before .before .before .before .before .before .before .before .before .before .before .before .before)) (store-acts (found (c .before .before .before .before .before .before .before .before .before .before .before .before .before .before .before)) (c .before .before .before .before .before .before .before .before .before .before .before .before .before .match3 .keys8)) (told saysReached (c .before .before .before .before .before .before .before .before .before .before .before .reach2 .ensures .0) (c .before .before .before .before .before .before .before .before .before .reached2 .given .1 ∙ ap reached.At (c .before .before .before .before .before .before .spot8 .given .1))) (held-there (kept-whole (found (c .before .before .before .before .before .before .before .before .before .before .before .before .before .before .before)) (widthOf (c .before .before .before .before .before .before .before .before .before .before .before .before .before .before .before .before .fetched .given .0 .0)) (4 * c .before .before .before .before .before .before .spot8 .given .0 .0) (getD (c .before .before .before .before .before .before .before .before .before .before .before .before .before .before .before .before .before .before .before .before .before .before .before .before .before .loop .cells) (c .before .before .before .before .before .before .before .before .before .before .before .before .before .before .before .before .before .before .before .before .before .before .before .before .before .loop .regs .p - 2) 0) ((spot-within (c .before .before .before .before .before .before .before .before .before .before .before .before .before .before .before .before .before .before .before .before .before .before .before .before .before .before .before .args .reach) (widthOf (c .before .before .before .before .before .before .before .before .before .before .before .before .before .before .before .before .fetched .given .0 .0)) (c .before .before .before .before .before .before .before .before .before .before .before .reach2 .ensures .1) (c .before .before .before .before .before .before .before .before .before .reached2 .given .1 ∙ ap reached.At (c .before .before .before .before .before .before .spot8 .given .1))) .0) (c .before .before .set-local .ensures (c .before .before .before .before .before .before .before .before .before .before .before .before .before .before .before .before .before .before .before .before .before .before .before .before .before .loop .copies) (c .before .before .before .before .before .before .before .before .before .before .before .before .before .before .before .before .before .before .before .before .before .before .before .before .before .loop .regs .e) (omega (arith, (c .before .before .before .before .before .before .before .before .before .before .before .before .before .before .before .before .before .before .before .before .before .before .before .before .before .loop .inv .0) .e-within)) (c .before .before .before .before .before .before .before .before .before .before .before .before .before .before .before .before .before .before .before .before .before .before .before .before .before .loop .inv .1 .1)))) refl (c .before .price15 .ensures .0 ∙ ap cyclesOf (sym (long-store (c .before .before .before .before .before .before .before .before .before .before .before .before .before .before .before .before .fetched .given .0 .0) (c .before .before .before .before .before .before .before .before .before .before .before .before .before .match3 .keys8) ((spot-within (c .before .before .before .before .before .before .before .before .before .before .before .before .before .before .before .before .before .before .before .before .before .before .before .before .before .before .before .args .reach) (widthOf (c .before .before .before .before .before .before .before .before .before .before .before .before .before .before .before .before .fetched .given .0 .0)) (c .before .before .before .before .before .before .before .before .before .before .before .reach2 .ensures .1) (c .before .before .before .before .before .before .before .before .before .reached2 .given .1 ∙ ap reached.At (c .before .before .before .before .before .before .spot8 .given .1))) .0)))) (c .counted16 .ensures .0), (c .before .before .before .before .before .before .before .before .before .before .before .before .before .before .before .before .before .before .before .before .before .before .before .before .before .loop .inv .1 .0, (kept-whole (found (c .before .before .before .before .before .before .before .before .before .before .before .before .before .before .before)) (widthOf (c .before .before .before .before .before .before .before .before .before .before .before .before .before .before .before .before .fetched .given .0 .0)) (4 * c .before .before .before .before .before .before .spot8 .given .0 .0) (getD (c .before .before .before .before .before .before .before .before .before .before .before .before .before .before .before .before .before .before .before .before .before .before .before .before .before .loop .cells) (c .before .before .before .before .before .before .before .before .before .before .before .before .before .before .before .before .before .before .before .before .before .before .before .before .before .loop .regs .p - 2) 0) ((spot-within (c .before .before .before .before .before .before .before .before .before .before .before .before .before .before .before .before .before .before .before .before .before .before .before .before .before .before .before .args .reach) (widthOf (c .before .before .before .before .before .before .before .before .before .before .before .before .before .before .before .before .fetched .given .0 .0)) (c .before .before .before .before .before .before .before .before .before .before .before .reach2 .ensures .1) (c .before .before .before .before .before .before .before .before .before .reached2 .given .1 ∙ ap reached.At (c .before .before .before .before .before .before .spot8 .given .1))) .0) (c .before .before .set-local .ensures (c .before .before .before .before .before .before .before .before .before .before .before .before .before .before .before .before .before .before .before .before .before .before .before .before .before .loop .copies) (c .before .before .before .before .before .before .before .before .before .before .before .before .before .before .before .before .before .before .before .before .before .before .before .before .before .loop .regs .e) (omega (arith, (c .before .before .before .before .before .before .before .before .before .before .before .before .before .before .before .before .before .before .before .before .before .before .before .before .before .loop .inv .0) .e-within)) (c .before .before .before .before .before .before .before .before .before .before .before .before .before .before .before .before .before .before .before .before .before .before .before .before .before .loop .inv .1 .1))) .laid))
+
+enum-known-spot-9 : tie.Need-enum-known-spot-9 Inv-loop μ-loop
+enum-known-spot-9 c = search needs
+
+sub-set-cell : tie.Need-sub-set-cell Inv-loop μ-loop
+sub-set-cell c = omega (arith, view-room (c .before .before .before .before .before .before .before .before .before .before .before .before .before .before .before .before .before .before .before .before .before .before .before .args .reach) (widthOf (c .before .before .before .before .before .before .before .before .before .before .before .before .fetched .given .0 .0)) (c .before .before .before .before .before .before .before .before .before .before .before .before .before .before .before .before .before .before .before .before .before .loop .cells) (told saysReached (c .before .before .before .before .before .before .before .reach2 .ensures .0) (c .before .before .before .before .before .reached2 .given .1 ∙ ap reached.At (c .before .before .spot9 .given .1))), (c .before .before .before .before .before .before .before .before .before .before .before .before .before .before .before .before .before .before .before .before .before .loop .inv .0) .p-within)
+
+mul-set-cell : tie.Need-mul-set-cell Inv-loop μ-loop
+mul-set-cell c = omega (arith, view-room (c .before .before .before .before .before .before .before .before .before .before .before .before .before .before .before .before .before .before .before .before .before .before .before .args .reach) (widthOf (c .before .before .before .before .before .before .before .before .before .before .before .before .fetched .given .0 .0)) (c .before .before .before .before .before .before .before .before .before .before .before .before .before .before .before .before .before .before .before .before .before .loop .cells) (told saysReached (c .before .before .before .before .before .before .before .reach2 .ensures .0) (c .before .before .before .before .before .reached2 .given .1 ∙ ap reached.At (c .before .before .spot9 .given .1))), (c .before .before .before .before .before .before .before .before .before .before .before .before .before .before .before .before .before .before .before .before .before .loop .inv .0) .p-within)
+
+element-copy-out-set-cell : tie.Need-element-copy-out-set-cell Inv-loop μ-loop
+element-copy-out-set-cell c = omega (arith, view-room (c .before .before .before .before .before .before .before .before .before .before .before .before .before .before .before .before .before .before .before .before .before .before .before .args .reach) (widthOf (c .before .before .before .before .before .before .before .before .before .before .before .before .fetched .given .0 .0)) (c .before .before .before .before .before .before .before .before .before .before .before .before .before .before .before .before .before .before .before .before .before .loop .cells) (told saysReached (c .before .before .before .before .before .before .before .reach2 .ensures .0) (c .before .before .before .before .before .reached2 .given .1 ∙ ap reached.At (c .before .before .spot9 .given .1))), (c .before .before .before .before .before .before .before .before .before .before .before .before .before .before .before .before .before .before .before .before .before .loop .inv .0) .p-within)
+
+set-cell-requires : tie.Need-set-cell-requires Inv-loop μ-loop
+set-cell-requires c κs = ((omega (arith, (c .before .before .before .before .before .before .before .before .before .before .before .before .before .before .before .before .before .before .before .before .before .before .loop .inv .0) .e-within)), (spot-within (c .before .before .before .before .before .before .before .before .before .before .before .before .before .before .before .before .before .before .before .before .before .before .before .before .args .reach) (widthOf (c .before .before .before .before .before .before .before .before .before .before .before .before .before .fetched .given .0 .0)) (c .before .before .before .before .before .before .before .before .reach2 .ensures .1) (c .before .before .before .before .before .before .reached2 .given .1 ∙ ap reached.At (c .before .before .before .spot9 .given .1))) .1)
+
+sub-regs-9 : tie.Need-sub-regs-9 Inv-loop μ-loop
+sub-regs-9 c = omega (arith, view-room (c .before .before .before .before .before .before .before .before .before .before .before .before .before .before .before .before .before .before .before .before .before .before .before .before .before .args .reach) (widthOf (c .before .before .before .before .before .before .before .before .before .before .before .before .before .before .fetched .given .0 .0)) (c .before .before .before .before .before .before .before .before .before .before .before .before .before .before .before .before .before .before .before .before .before .before .before .loop .cells) (told saysReached (c .before .before .before .before .before .before .before .before .before .reach2 .ensures .0) (c .before .before .before .before .before .before .before .reached2 .given .1 ∙ ap reached.At (c .before .before .before .before .spot9 .given .1))), (c .before .before .before .before .before .before .before .before .before .before .before .before .before .before .before .before .before .before .before .before .before .before .before .loop .inv .0) .p-within)
+
+price-requires-16 : tie.Need-price-requires-16 Inv-loop μ-loop
+price-requires-16 c κs = c .before .before .before .before .before .before .before .before .before .before .before .before .before .before .before .before .before .before .before .before .before .before .before .loop .inv .1 .0
+
+counted-requires-17 : tie.Need-counted-requires-17 Inv-loop μ-loop
+counted-requires-17 c κs = ((found (c .before .before .before .before .before .before .before .before .before .before .before .before .before .before)) .less, ((omega (arith, (c .before .before .before .before .before .before .before .before .before .before .before .before .before .before .before .before .before .before .before .before .before .before .before .before .loop .inv .0) .priced, (c .before .before .before .before .before .before .before .before .before .before .before .before .before .before .before .before .before .before .before .before .before .before .before .before .loop .inv .0) .limit, (c .before .before .before .before .before .before .before .before .before .before .before .before .before .before .before .before .before .before .before .before .before .before .before .before .loop .inv .0) .left-within, (found (c .before .before .before .before .before .before .before .before .before .before .before .before .before .before)) .less)), c .price16 .ensures .1))
+
+loop-less-27 : tie.Need-loop-less-27 Inv-loop μ-loop
+loop-less-27 c = omega (arith, c .counted17 .ensures .1)
+
+loop-again-27 : tie.Need-loop-again-27 Inv-loop μ-loop
+loop-again-27 c = (goes (found (c .before .before .before .before .before .before .before .before .before .before .before .before .before .before .before)) (store-acts (found (c .before .before .before .before .before .before .before .before .before .before .before .before .before .before .before)) (c .before .before .before .before .before .before .before .before .before .before .before .before .before .match3 .keys8)) (told saysReached (c .before .before .before .before .before .before .before .before .before .before .before .reach2 .ensures .0) (c .before .before .before .before .before .before .before .before .before .reached2 .given .1 ∙ ap reached.At (c .before .before .before .before .before .before .spot9 .given .1))) (held-there (kept-whole (found (c .before .before .before .before .before .before .before .before .before .before .before .before .before .before .before)) (widthOf (c .before .before .before .before .before .before .before .before .before .before .before .before .before .before .before .before .fetched .given .0 .0)) (4 * (localsCount + c .before .before .before .before .before .before .spot9 .given .0 .0)) (getD (c .before .before .before .before .before .before .before .before .before .before .before .before .before .before .before .before .before .before .before .before .before .before .before .before .before .loop .cells) (c .before .before .before .before .before .before .before .before .before .before .before .before .before .before .before .before .before .before .before .before .before .before .before .before .before .loop .regs .p - 2) 0) ((spot-within (c .before .before .before .before .before .before .before .before .before .before .before .before .before .before .before .before .before .before .before .before .before .before .before .before .before .before .before .args .reach) (widthOf (c .before .before .before .before .before .before .before .before .before .before .before .before .before .before .before .before .fetched .given .0 .0)) (c .before .before .before .before .before .before .before .before .before .before .before .reach2 .ensures .1) (c .before .before .before .before .before .before .before .before .before .reached2 .given .1 ∙ ap reached.At (c .before .before .before .before .before .before .spot9 .given .1))) .0) (c .before .before .set-cell .ensures (c .before .before .before .before .before .before .before .before .before .before .before .before .before .before .before .before .before .before .before .before .before .before .before .before .before .loop .copies) (c .before .before .before .before .before .before .before .before .before .before .before .before .before .before .before .before .before .before .before .before .before .before .before .before .before .loop .regs .s) (omega (arith, (c .before .before .before .before .before .before .before .before .before .before .before .before .before .before .before .before .before .before .before .before .before .before .before .before .before .loop .inv .0) .s-within)) (c .before .before .before .before .before .before .before .before .before .before .before .before .before .before .before .before .before .before .before .before .before .before .before .before .before .loop .inv .1 .1)))) refl (c .before .price16 .ensures .0 ∙ ap cyclesOf (sym (long-store (c .before .before .before .before .before .before .before .before .before .before .before .before .before .before .before .before .fetched .given .0 .0) (c .before .before .before .before .before .before .before .before .before .before .before .before .before .match3 .keys8) ((spot-within (c .before .before .before .before .before .before .before .before .before .before .before .before .before .before .before .before .before .before .before .before .before .before .before .before .before .before .before .args .reach) (widthOf (c .before .before .before .before .before .before .before .before .before .before .before .before .before .before .before .before .fetched .given .0 .0)) (c .before .before .before .before .before .before .before .before .before .before .before .reach2 .ensures .1) (c .before .before .before .before .before .before .before .before .before .reached2 .given .1 ∙ ap reached.At (c .before .before .before .before .before .before .spot9 .given .1))) .0)))) (c .counted17 .ensures .0), (c .before .before .before .before .before .before .before .before .before .before .before .before .before .before .before .before .before .before .before .before .before .before .before .before .before .loop .inv .1 .0, (kept-whole (found (c .before .before .before .before .before .before .before .before .before .before .before .before .before .before .before)) (widthOf (c .before .before .before .before .before .before .before .before .before .before .before .before .before .before .before .before .fetched .given .0 .0)) (4 * (localsCount + c .before .before .before .before .before .before .spot9 .given .0 .0)) (getD (c .before .before .before .before .before .before .before .before .before .before .before .before .before .before .before .before .before .before .before .before .before .before .before .before .before .loop .cells) (c .before .before .before .before .before .before .before .before .before .before .before .before .before .before .before .before .before .before .before .before .before .before .before .before .before .loop .regs .p - 2) 0) ((spot-within (c .before .before .before .before .before .before .before .before .before .before .before .before .before .before .before .before .before .before .before .before .before .before .before .before .before .before .before .args .reach) (widthOf (c .before .before .before .before .before .before .before .before .before .before .before .before .before .before .before .before .fetched .given .0 .0)) (c .before .before .before .before .before .before .before .before .before .before .before .reach2 .ensures .1) (c .before .before .before .before .before .before .before .before .before .reached2 .given .1 ∙ ap reached.At (c .before .before .before .before .before .before .spot9 .given .1))) .0) (c .before .before .set-cell .ensures (c .before .before .before .before .before .before .before .before .before .before .before .before .before .before .before .before .before .before .before .before .before .before .before .before .before .loop .copies) (c .before .before .before .before .before .before .before .before .before .before .before .before .before .before .before .before .before .before .before .before .before .before .before .before .before .loop .regs .s) (omega (arith, (c .before .before .before .before .before .before .before .before .before .before .before .before .before .before .before .before .before .before .before .before .before .before .before .before .before .loop .inv .0) .s-within)) (c .before .before .before .before .before .before .before .before .before .before .before .before .before .before .before .before .before .before .before .before .before .before .before .before .before .loop .inv .1 .1))) .laid))
+
+enum-known-spot-10 : tie.Need-enum-known-spot-10 Inv-loop μ-loop
+enum-known-spot-10 c = search needs
+
+sub-write-in-view : tie.Need-sub-write-in-view Inv-loop μ-loop
+sub-write-in-view c = omega (arith, view-room (c .before .before .before .before .before .before .before .before .before .before .before .before .before .before .before .before .before .before .before .before .before .before .before .args .reach) (widthOf (c .before .before .before .before .before .before .before .before .before .before .before .before .fetched .given .0 .0)) (c .before .before .before .before .before .before .before .before .before .before .before .before .before .before .before .before .before .before .before .before .before .loop .cells) (told saysReached (c .before .before .before .before .before .before .before .reach2 .ensures .0) (c .before .before .before .before .before .reached2 .given .1 ∙ ap reached.At (c .before .before .spot10 .given .1))), (c .before .before .before .before .before .before .before .before .before .before .before .before .before .before .before .before .before .before .before .before .before .loop .inv .0) .p-within)
+
+mul-write-in-view : tie.Need-mul-write-in-view Inv-loop μ-loop
+mul-write-in-view c = omega (arith, view-room (c .before .before .before .before .before .before .before .before .before .before .before .before .before .before .before .before .before .before .before .before .before .before .before .args .reach) (widthOf (c .before .before .before .before .before .before .before .before .before .before .before .before .fetched .given .0 .0)) (c .before .before .before .before .before .before .before .before .before .before .before .before .before .before .before .before .before .before .before .before .before .loop .cells) (told saysReached (c .before .before .before .before .before .before .before .reach2 .ensures .0) (c .before .before .before .before .before .reached2 .given .1 ∙ ap reached.At (c .before .before .spot10 .given .1))), (c .before .before .before .before .before .before .before .before .before .before .before .before .before .before .before .before .before .before .before .before .before .loop .inv .0) .p-within)
+
+element-copy-out-write-in-view : tie.Need-element-copy-out-write-in-view Inv-loop μ-loop
+element-copy-out-write-in-view c = omega (arith, view-room (c .before .before .before .before .before .before .before .before .before .before .before .before .before .before .before .before .before .before .before .before .before .before .before .args .reach) (widthOf (c .before .before .before .before .before .before .before .before .before .before .before .before .fetched .given .0 .0)) (c .before .before .before .before .before .before .before .before .before .before .before .before .before .before .before .before .before .before .before .before .before .loop .cells) (told saysReached (c .before .before .before .before .before .before .before .reach2 .ensures .0) (c .before .before .before .before .before .reached2 .given .1 ∙ ap reached.At (c .before .before .spot10 .given .1))), (c .before .before .before .before .before .before .before .before .before .before .before .before .before .before .before .before .before .before .before .before .before .loop .inv .0) .p-within)
+
+write-in-view-requires : tie.Need-write-in-view-requires Inv-loop μ-loop
+write-in-view-requires c κs = ((omega (arith, (c .before .before .before .before .before .before .before .before .before .before .before .before .before .before .before .before .before .before .before .before .before .before .loop .inv .0) .s-within)), ((omega (arith, (c .before .before .before .before .before .before .before .before .before .before .before .before .before .before .before .before .before .before .before .before .before .before .loop .inv .0) .e-within)), (view-room (c .before .before .before .before .before .before .before .before .before .before .before .before .before .before .before .before .before .before .before .before .before .before .before .before .args .reach) (widthOf (c .before .before .before .before .before .before .before .before .before .before .before .before .before .fetched .given .0 .0)) (c .before .before .before .before .before .before .before .before .before .before .before .before .before .before .before .before .before .before .before .before .before .before .loop .cells) (told saysReached (c .before .before .before .before .before .before .before .before .reach2 .ensures .0) (c .before .before .before .before .before .before .reached2 .given .1 ∙ ap reached.At (c .before .before .before .spot10 .given .1)))) .1))
+
+sub-regs-10 : tie.Need-sub-regs-10 Inv-loop μ-loop
+sub-regs-10 c = omega (arith, view-room (c .before .before .before .before .before .before .before .before .before .before .before .before .before .before .before .before .before .before .before .before .before .before .before .before .before .args .reach) (widthOf (c .before .before .before .before .before .before .before .before .before .before .before .before .before .before .fetched .given .0 .0)) (c .before .before .before .before .before .before .before .before .before .before .before .before .before .before .before .before .before .before .before .before .before .before .before .loop .cells) (told saysReached (c .before .before .before .before .before .before .before .before .before .reach2 .ensures .0) (c .before .before .before .before .before .before .before .reached2 .given .1 ∙ ap reached.At (c .before .before .before .before .spot10 .given .1))), (c .before .before .before .before .before .before .before .before .before .before .before .before .before .before .before .before .before .before .before .before .before .before .before .loop .inv .0) .p-within)
+
+price-requires-17 : tie.Need-price-requires-17 Inv-loop μ-loop
+price-requires-17 c κs = c .before .before .before .before .before .before .before .before .before .before .before .before .before .before .before .before .before .before .before .before .before .before .before .loop .inv .1 .0
+
+counted-requires-18 : tie.Need-counted-requires-18 Inv-loop μ-loop
+counted-requires-18 c κs = ((found (c .before .before .before .before .before .before .before .before .before .before .before .before .before .before)) .less, ((omega (arith, (c .before .before .before .before .before .before .before .before .before .before .before .before .before .before .before .before .before .before .before .before .before .before .before .before .loop .inv .0) .priced, (c .before .before .before .before .before .before .before .before .before .before .before .before .before .before .before .before .before .before .before .before .before .before .before .before .loop .inv .0) .limit, (c .before .before .before .before .before .before .before .before .before .before .before .before .before .before .before .before .before .before .before .before .before .before .before .before .loop .inv .0) .left-within, (found (c .before .before .before .before .before .before .before .before .before .before .before .before .before .before)) .less)), c .price17 .ensures .1))
+
+loop-less-28 : tie.Need-loop-less-28 Inv-loop μ-loop
+loop-less-28 c = omega (arith, c .counted18 .ensures .1)
+
+loop-again-28 : tie.Need-loop-again-28 Inv-loop μ-loop
+loop-again-28 c = (goes (found (c .before .before .before .before .before .before .before .before .before .before .before .before .before .before .before)) (store-acts (found (c .before .before .before .before .before .before .before .before .before .before .before .before .before .before .before)) (c .before .before .before .before .before .before .before .before .before .before .before .before .before .match3 .keys8)) (told saysReached (c .before .before .before .before .before .before .before .before .before .before .before .reach2 .ensures .0) (c .before .before .before .before .before .before .before .before .before .reached2 .given .1 ∙ ap reached.At (c .before .before .before .before .before .before .spot10 .given .1))) (held-there (c .before .before .write-in-view .ensures (c .before .before .before .before .before .before .before .before .before .before .before .before .before .before .before .before .before .before .before .before .before .before .before .before .before .loop .copies) (c .before .before .before .before .before .before .before .before .before .before .before .before .before .before .before .before .before .before .before .before .before .before .before .before .before .loop .inv .1 .1))) refl (c .before .price17 .ensures .0) (c .counted18 .ensures .0), (c .before .before .before .before .before .before .before .before .before .before .before .before .before .before .before .before .before .before .before .before .before .before .before .before .before .loop .inv .1 .0, (c .before .before .write-in-view .ensures (c .before .before .before .before .before .before .before .before .before .before .before .before .before .before .before .before .before .before .before .before .before .before .before .before .before .loop .copies) (c .before .before .before .before .before .before .before .before .before .before .before .before .before .before .before .before .before .before .before .before .before .before .before .before .before .loop .inv .1 .1)) .laid))
 
 can-call-requires : tie.Need-can-call-requires Inv-loop μ-loop
 can-call-requires c κs = search needs
@@ -728,11 +787,11 @@ enum-told-16 c = search needs
 by-check-requires-5 : tie.Need-by-check-requires-5 Inv-loop μ-loop
 by-check-requires-5 c κs = search needs
 
-loop-less-27 : tie.Need-loop-less-27 Inv-loop μ-loop
-loop-less-27 c = halted-less (c .before .before .before .before .before .before .before .before .before .before .before .before .before .before .before .before .loop .regs) (c .by-check5 .ensures) (ap saysChecked (c .before .enum-told16 .given .1)) ((found (c .before .before .before .before .before .before)) .less)
+loop-less-29 : tie.Need-loop-less-29 Inv-loop μ-loop
+loop-less-29 c = halted-less (c .before .before .before .before .before .before .before .before .before .before .before .before .before .before .before .before .loop .regs) (c .by-check5 .ensures) (ap saysChecked (c .before .enum-told16 .given .1)) ((found (c .before .before .before .before .before .before)) .less)
 
-loop-again-27 : tie.Need-loop-again-27 Inv-loop μ-loop
-loop-again-27 c = (ends (found (c .before .before .before .before .before .before)) (call-acts (found (c .before .before .before .before .before .before)) (c .before .before .before .before .match3 .keys9)) (told saysChecked (c .before .before .before .can-call .ensures) (c .before .enum-told16 .given .1)) (c .before .before .before .can-call .ensures) (c .by-check5 .ensures), (c .before .before .before .before .before .before .before .before .before .before .before .before .before .before .before .before .loop .inv .1))
+loop-again-29 : tie.Need-loop-again-29 Inv-loop μ-loop
+loop-again-29 c = (ends (found (c .before .before .before .before .before .before)) (call-acts (found (c .before .before .before .before .before .before)) (c .before .before .before .before .match3 .keys9)) (told saysChecked (c .before .before .before .can-call .ensures) (c .before .enum-told16 .given .1)) (c .before .before .before .can-call .ensures) (c .by-check5 .ensures), (c .before .before .before .before .before .before .before .before .before .before .before .before .before .before .before .before .loop .inv .1))
 
 mul-returns-4 : tie.Need-mul-returns-4 Inv-loop μ-loop
 mul-returns-4 c = omega (arith, call-room (told saysChecked (c .before .before .can-call .ensures) (c .enum-told15 .given .1)))
@@ -749,17 +808,17 @@ add-regs-8 c = omega (arith, call-room (told saysChecked (c .before .before .bef
 add-regs-9 : tie.Need-add-regs-9 Inv-loop μ-loop
 add-regs-9 c = omega (arith, call-room (told saysChecked (c .before .before .before .before .before .can-call .ensures) (c .before .before .before .enum-told15 .given .1)))
 
-price-requires-16 : tie.Need-price-requires-16 Inv-loop μ-loop
-price-requires-16 c κs = c .before .before .before .before .before .before .before .before .before .before .before .before .before .before .before .before .before .before .loop .inv .1 .0
+price-requires-18 : tie.Need-price-requires-18 Inv-loop μ-loop
+price-requires-18 c κs = c .before .before .before .before .before .before .before .before .before .before .before .before .before .before .before .before .before .before .loop .inv .1 .0
 
-counted-requires-17 : tie.Need-counted-requires-17 Inv-loop μ-loop
-counted-requires-17 c κs = ((found (c .before .before .before .before .before .before .before .before .before)) .less, ((omega (arith, (c .before .before .before .before .before .before .before .before .before .before .before .before .before .before .before .before .before .before .before .loop .inv .0) .priced, (c .before .before .before .before .before .before .before .before .before .before .before .before .before .before .before .before .before .before .before .loop .inv .0) .limit, (c .before .before .before .before .before .before .before .before .before .before .before .before .before .before .before .before .before .before .before .loop .inv .0) .left-within, (found (c .before .before .before .before .before .before .before .before .before)) .less)), c .price16 .ensures .1))
+counted-requires-19 : tie.Need-counted-requires-19 Inv-loop μ-loop
+counted-requires-19 c κs = ((found (c .before .before .before .before .before .before .before .before .before)) .less, ((omega (arith, (c .before .before .before .before .before .before .before .before .before .before .before .before .before .before .before .before .before .before .before .loop .inv .0) .priced, (c .before .before .before .before .before .before .before .before .before .before .before .before .before .before .before .before .before .before .before .loop .inv .0) .limit, (c .before .before .before .before .before .before .before .before .before .before .before .before .before .before .before .before .before .before .before .loop .inv .0) .left-within, (found (c .before .before .before .before .before .before .before .before .before)) .less)), c .price18 .ensures .1))
 
-loop-less-28 : tie.Need-loop-less-28 Inv-loop μ-loop
-loop-less-28 c = omega (arith, c .counted17 .ensures .1)
+loop-less-30 : tie.Need-loop-less-30 Inv-loop μ-loop
+loop-less-30 c = omega (arith, c .counted19 .ensures .1)
 
-loop-again-28 : tie.Need-loop-again-28 Inv-loop μ-loop
-loop-again-28 c = (goes (found (c .before .before .before .before .before .before .before .before .before .before)) (call-acts (found (c .before .before .before .before .before .before .before .before .before .before)) (c .before .before .before .before .before .before .before .before .match3 .keys9)) (told saysChecked (c .before .before .before .before .before .before .before .can-call .ensures) (c .before .before .before .before .before .enum-told15 .given .1)) (held-there (c .before .before .called2 .ensures (c .before .before .before .before .before .before .before .before .before .before .before .before .before .before .before .before .before .before .before .before .loop .inv .1 .1))) refl (c .before .price16 .ensures .0) (c .counted17 .ensures .0), (c .before .before .before .before .before .before .before .before .before .before .before .before .before .before .before .before .before .before .before .before .loop .inv .1 .0, (c .before .before .called2 .ensures (c .before .before .before .before .before .before .before .before .before .before .before .before .before .before .before .before .before .before .before .before .loop .inv .1 .1)) .laid))
+loop-again-30 : tie.Need-loop-again-30 Inv-loop μ-loop
+loop-again-30 c = (goes (found (c .before .before .before .before .before .before .before .before .before .before)) (call-acts (found (c .before .before .before .before .before .before .before .before .before .before)) (c .before .before .before .before .before .before .before .before .match3 .keys9)) (told saysChecked (c .before .before .before .before .before .before .before .can-call .ensures) (c .before .before .before .before .before .enum-told15 .given .1)) (held-there (c .before .before .called2 .ensures (c .before .before .before .before .before .before .before .before .before .before .before .before .before .before .before .before .before .before .before .before .loop .inv .1 .1))) refl (c .before .price18 .ensures .0) (c .counted19 .ensures .0), (c .before .before .before .before .before .before .before .before .before .before .before .before .before .before .before .before .before .before .before .before .loop .inv .1 .0, (c .before .before .called2 .ensures (c .before .before .before .before .before .before .before .before .before .before .before .before .before .before .before .before .before .before .before .before .loop .inv .1 .1)) .laid))
 
 can-call-requires-2 : tie.Need-can-call-requires-2 Inv-loop μ-loop
 can-call-requires-2 c κs = search needs
@@ -773,11 +832,11 @@ enum-told-18 c = search needs
 by-check-requires-6 : tie.Need-by-check-requires-6 Inv-loop μ-loop
 by-check-requires-6 c κs = search needs
 
-loop-less-29 : tie.Need-loop-less-29 Inv-loop μ-loop
-loop-less-29 c = halted-less (c .before .before .before .before .before .before .before .before .before .before .before .before .before .before .before .before .loop .regs) (c .by-check6 .ensures) (ap saysChecked (c .before .enum-told18 .given .1)) ((found (c .before .before .before .before .before .before)) .less)
+loop-less-31 : tie.Need-loop-less-31 Inv-loop μ-loop
+loop-less-31 c = halted-less (c .before .before .before .before .before .before .before .before .before .before .before .before .before .before .before .before .loop .regs) (c .by-check6 .ensures) (ap saysChecked (c .before .enum-told18 .given .1)) ((found (c .before .before .before .before .before .before)) .less)
 
-loop-again-29 : tie.Need-loop-again-29 Inv-loop μ-loop
-loop-again-29 c = (ends (found (c .before .before .before .before .before .before)) (call-top-acts (found (c .before .before .before .before .before .before)) (c .before .before .before .before .match3 .keys10)) (told saysChecked (c .before .before .before .can-call2 .ensures) (c .before .enum-told18 .given .1)) (c .before .before .before .can-call2 .ensures) (c .by-check6 .ensures), (c .before .before .before .before .before .before .before .before .before .before .before .before .before .before .before .before .loop .inv .1))
+loop-again-31 : tie.Need-loop-again-31 Inv-loop μ-loop
+loop-again-31 c = (ends (found (c .before .before .before .before .before .before)) (call-top-acts (found (c .before .before .before .before .before .before)) (c .before .before .before .before .match3 .keys10)) (told saysChecked (c .before .before .before .can-call2 .ensures) (c .before .enum-told18 .given .1)) (c .before .before .before .can-call2 .ensures) (c .by-check6 .ensures), (c .before .before .before .before .before .before .before .before .before .before .before .before .before .before .before .before .loop .inv .1))
 
 sub-to-2 : tie.Need-sub-to-2 Inv-loop μ-loop
 sub-to-2 c = omega (arith, call-room (told saysChecked (c .before .before .can-call2 .ensures) (c .enum-told17 .given .1)))
@@ -797,8 +856,8 @@ element-write-returns-4 c = omega (arith, call-room (told saysChecked (c .before
 called-requires-3 : tie.Need-called-requires-3 Inv-loop μ-loop
 called-requires-3 c κs = omega (arith, call-room (told saysChecked (c .before .before .before .before .before .can-call2 .ensures) (c .before .before .before .enum-told17 .given .1)))
 
-sub-regs-10 : tie.Need-sub-regs-10 Inv-loop μ-loop
-sub-regs-10 c = omega (arith, call-room (told saysChecked (c .before .before .before .before .before .before .can-call2 .ensures) (c .before .before .before .before .enum-told17 .given .1)))
+sub-regs-11 : tie.Need-sub-regs-11 Inv-loop μ-loop
+sub-regs-11 c = omega (arith, call-room (told saysChecked (c .before .before .before .before .before .before .can-call2 .ensures) (c .before .before .before .before .enum-told17 .given .1)))
 
 add-regs-10 : tie.Need-add-regs-10 Inv-loop μ-loop
 add-regs-10 c = omega (arith, call-room (told saysChecked (c .before .before .before .before .before .before .can-call2 .ensures) (c .before .before .before .before .enum-told17 .given .1)))
@@ -806,17 +865,17 @@ add-regs-10 c = omega (arith, call-room (told saysChecked (c .before .before .be
 add-regs-11 : tie.Need-add-regs-11 Inv-loop μ-loop
 add-regs-11 c = omega (arith, call-room (told saysChecked (c .before .before .before .before .before .before .can-call2 .ensures) (c .before .before .before .before .enum-told17 .given .1)))
 
-price-requires-17 : tie.Need-price-requires-17 Inv-loop μ-loop
-price-requires-17 c κs = c .before .before .before .before .before .before .before .before .before .before .before .before .before .before .before .before .before .before .before .loop .inv .1 .0
+price-requires-19 : tie.Need-price-requires-19 Inv-loop μ-loop
+price-requires-19 c κs = c .before .before .before .before .before .before .before .before .before .before .before .before .before .before .before .before .before .before .before .loop .inv .1 .0
 
-counted-requires-18 : tie.Need-counted-requires-18 Inv-loop μ-loop
-counted-requires-18 c κs = ((found (c .before .before .before .before .before .before .before .before .before .before)) .less, ((omega (arith, (c .before .before .before .before .before .before .before .before .before .before .before .before .before .before .before .before .before .before .before .before .loop .inv .0) .priced, (c .before .before .before .before .before .before .before .before .before .before .before .before .before .before .before .before .before .before .before .before .loop .inv .0) .limit, (c .before .before .before .before .before .before .before .before .before .before .before .before .before .before .before .before .before .before .before .before .loop .inv .0) .left-within, (found (c .before .before .before .before .before .before .before .before .before .before)) .less)), c .price17 .ensures .1))
+counted-requires-20 : tie.Need-counted-requires-20 Inv-loop μ-loop
+counted-requires-20 c κs = ((found (c .before .before .before .before .before .before .before .before .before .before)) .less, ((omega (arith, (c .before .before .before .before .before .before .before .before .before .before .before .before .before .before .before .before .before .before .before .before .loop .inv .0) .priced, (c .before .before .before .before .before .before .before .before .before .before .before .before .before .before .before .before .before .before .before .before .loop .inv .0) .limit, (c .before .before .before .before .before .before .before .before .before .before .before .before .before .before .before .before .before .before .before .before .loop .inv .0) .left-within, (found (c .before .before .before .before .before .before .before .before .before .before)) .less)), c .price19 .ensures .1))
 
-loop-less-30 : tie.Need-loop-less-30 Inv-loop μ-loop
-loop-less-30 c = omega (arith, c .counted18 .ensures .1)
+loop-less-32 : tie.Need-loop-less-32 Inv-loop μ-loop
+loop-less-32 c = omega (arith, c .counted20 .ensures .1)
 
-loop-again-30 : tie.Need-loop-again-30 Inv-loop μ-loop
-loop-again-30 c = (goes (found (c .before .before .before .before .before .before .before .before .before .before .before)) (call-top-acts (found (c .before .before .before .before .before .before .before .before .before .before .before)) (c .before .before .before .before .before .before .before .before .before .match3 .keys10)) (told saysChecked (c .before .before .before .before .before .before .before .before .can-call2 .ensures) (c .before .before .before .before .before .before .enum-told17 .given .1)) (held-there (c .before .before .called3 .ensures (c .before .before .before .before .before .before .before .before .before .before .before .before .before .before .before .before .before .before .before .before .before .loop .inv .1 .1))) refl (c .before .price17 .ensures .0) (c .counted18 .ensures .0), (c .before .before .before .before .before .before .before .before .before .before .before .before .before .before .before .before .before .before .before .before .before .loop .inv .1 .0, (c .before .before .called3 .ensures (c .before .before .before .before .before .before .before .before .before .before .before .before .before .before .before .before .before .before .before .before .before .loop .inv .1 .1)) .laid))
+loop-again-32 : tie.Need-loop-again-32 Inv-loop μ-loop
+loop-again-32 c = (goes (found (c .before .before .before .before .before .before .before .before .before .before .before)) (call-top-acts (found (c .before .before .before .before .before .before .before .before .before .before .before)) (c .before .before .before .before .before .before .before .before .before .match3 .keys10)) (told saysChecked (c .before .before .before .before .before .before .before .before .can-call2 .ensures) (c .before .before .before .before .before .before .enum-told17 .given .1)) (held-there (c .before .before .called3 .ensures (c .before .before .before .before .before .before .before .before .before .before .before .before .before .before .before .before .before .before .before .before .before .loop .inv .1 .1))) refl (c .before .price19 .ensures .0) (c .counted20 .ensures .0), (c .before .before .before .before .before .before .before .before .before .before .before .before .before .before .before .before .before .before .before .before .before .loop .inv .1 .0, (c .before .before .called3 .ensures (c .before .before .before .before .before .before .before .before .before .before .before .before .before .before .before .before .before .before .before .before .before .loop .inv .1 .1)) .laid))
 
 can-exit-requires : tie.Need-can-exit-requires Inv-loop μ-loop
 can-exit-requires c κs = search needs
@@ -830,14 +889,14 @@ enum-told-20 c = search needs
 by-exit-requires : tie.Need-by-exit-requires Inv-loop μ-loop
 by-exit-requires c κs = search needs
 
-loop-less-31 : tie.Need-loop-less-31 Inv-loop μ-loop
-loop-less-31 c = halted-less (c .before .before .before .before .before .before .before .before .before .before .before .before .before .before .before .before .loop .regs) (c .by-exit .ensures) (ap saysExit (c .before .enum-told20 .given .1)) ((found (c .before .before .before .before .before .before)) .less)
+loop-less-33 : tie.Need-loop-less-33 Inv-loop μ-loop
+loop-less-33 c = halted-less (c .before .before .before .before .before .before .before .before .before .before .before .before .before .before .before .before .loop .regs) (c .by-exit .ensures) (ap saysExit (c .before .enum-told20 .given .1)) ((found (c .before .before .before .before .before .before)) .less)
 
-loop-again-31 : tie.Need-loop-again-31 Inv-loop μ-loop
-loop-again-31 c = (ends (found (c .before .before .before .before .before .before)) (exit-acts (found (c .before .before .before .before .before .before)) (c .before .before .before .before .match3 .keys11) refl refl refl) (told saysExit (c .before .before .before .can-exit .ensures) (c .before .enum-told20 .given .1)) (c .before .before .before .can-exit .ensures) (c .by-exit .ensures), (c .before .before .before .before .before .before .before .before .before .before .before .before .before .before .before .before .loop .inv .1))
+loop-again-33 : tie.Need-loop-again-33 Inv-loop μ-loop
+loop-again-33 c = (ends (found (c .before .before .before .before .before .before)) (exit-acts (found (c .before .before .before .before .before .before)) (c .before .before .before .before .match3 .keys11) refl refl refl) (told saysExit (c .before .before .before .can-exit .ensures) (c .before .enum-told20 .given .1)) (c .before .before .before .can-exit .ensures) (c .by-exit .ensures), (c .before .before .before .before .before .before .before .before .before .before .before .before .before .before .before .before .loop .inv .1))
 
-sub-regs-11 : tie.Need-sub-regs-11 Inv-loop μ-loop
-sub-regs-11 c = omega (arith, exit-room (told saysExit (c .before .before .can-exit .ensures) (c .enum-told19 .given .1)))
+sub-regs-12 : tie.Need-sub-regs-12 Inv-loop μ-loop
+sub-regs-12 c = omega (arith, exit-room (told saysExit (c .before .before .can-exit .ensures) (c .enum-told19 .given .1)))
 
 sub-e-after-drop : tie.Need-sub-e-after-drop Inv-loop μ-loop
 sub-e-after-drop c = omega (arith, exit-room (told saysExit (c .before .before .can-exit .ensures) (c .enum-told19 .given .1)))
@@ -854,32 +913,32 @@ copy-of-r-requires-3 c κs = omega (arith, (c .before .before .before .before .b
 return-address-requires : tie.Need-return-address-requires Inv-loop μ-loop
 return-address-requires c κs = omega (arith, (c .before .before .before .before .before .before .before .before .before .before .before .before .before .before .before .before .before .before .before .before .before .loop .inv .0) .s-within)
 
-price-requires-18 : tie.Need-price-requires-18 Inv-loop μ-loop
-price-requires-18 c κs = c .before .before .before .before .before .before .before .before .before .before .before .before .before .before .before .before .before .before .before .before .before .before .loop .inv .1 .0
+price-requires-20 : tie.Need-price-requires-20 Inv-loop μ-loop
+price-requires-20 c κs = c .before .before .before .before .before .before .before .before .before .before .before .before .before .before .before .before .before .before .before .before .before .before .loop .inv .1 .0
 
-counted-requires-19 : tie.Need-counted-requires-19 Inv-loop μ-loop
-counted-requires-19 c κs = ((found (c .before .before .before .before .before .before .before .before .before .before .before .before .before)) .less, ((omega (arith, (c .before .before .before .before .before .before .before .before .before .before .before .before .before .before .before .before .before .before .before .before .before .before .before .loop .inv .0) .priced, (c .before .before .before .before .before .before .before .before .before .before .before .before .before .before .before .before .before .before .before .before .before .before .before .loop .inv .0) .limit, (c .before .before .before .before .before .before .before .before .before .before .before .before .before .before .before .before .before .before .before .before .before .before .before .loop .inv .0) .left-within, (found (c .before .before .before .before .before .before .before .before .before .before .before .before .before)) .less)), c .price18 .ensures .1))
+counted-requires-21 : tie.Need-counted-requires-21 Inv-loop μ-loop
+counted-requires-21 c κs = ((found (c .before .before .before .before .before .before .before .before .before .before .before .before .before)) .less, ((omega (arith, (c .before .before .before .before .before .before .before .before .before .before .before .before .before .before .before .before .before .before .before .before .before .before .before .loop .inv .0) .priced, (c .before .before .before .before .before .before .before .before .before .before .before .before .before .before .before .before .before .before .before .before .before .before .before .loop .inv .0) .limit, (c .before .before .before .before .before .before .before .before .before .before .before .before .before .before .before .before .before .before .before .before .before .before .before .loop .inv .0) .left-within, (found (c .before .before .before .before .before .before .before .before .before .before .before .before .before)) .less)), c .price20 .ensures .1))
 
-loop-less-32 : tie.Need-loop-less-32 Inv-loop μ-loop
-loop-less-32 c = omega (arith, c .counted19 .ensures .1)
+loop-less-34 : tie.Need-loop-less-34 Inv-loop μ-loop
+loop-less-34 c = omega (arith, c .counted21 .ensures .1)
 
-loop-again-32 : tie.Need-loop-again-32 Inv-loop μ-loop
-loop-again-32 c = (goes (found (c .before .before .before .before .before .before .before .before .before .before .before .before .before .before)) (exit-acts (found (c .before .before .before .before .before .before .before .before .before .before .before .before .before .before)) (c .before .before .before .before .before .before .before .before .before .before .before .before .match3 .keys11) (c .before .before .before .before .before .before .e-after-drop .ensures ∙ ap (eAfterDropOf (c .before .before .before .before .before .before .before .before .before .before .before .before .before .before .before .before .before .before .before .before .before .before .before .before .loop .regs .s - 1) (c .before .before .before .before .before .before .before .before .before .before .before .before .before .before .before .before .before .before .before .before .before .before .before .before .loop .regs .e)) (c .before .before .before .before .before .before .before .copy-of-s3 .ensures (c .before .before .before .before .before .before .before .before .before .before .before .before .before .before .before .before .before .before .before .before .before .before .before .before .loop .rows))) (c .before .before .before .before .copy-of-r3 .ensures (c .before .before .before .before .before .before .before .before .before .before .before .before .before .before .before .before .before .before .before .before .before .before .before .before .loop .rows)) (c .before .before .return-address .ensures (c .before .before .before .before .before .before .before .before .before .before .before .before .before .before .before .before .before .before .before .before .before .before .before .before .loop .copies))) (told saysExit (c .before .before .before .before .before .before .before .before .before .before .before .can-exit .ensures) (c .before .before .before .before .before .before .before .before .before .enum-told19 .given .1)) refl refl (c .before .price18 .ensures .0) (c .counted19 .ensures .0), (c .before .before .before .before .before .before .before .before .before .before .before .before .before .before .before .before .before .before .before .before .before .before .before .before .loop .inv .1))
+loop-again-34 : tie.Need-loop-again-34 Inv-loop μ-loop
+loop-again-34 c = (goes (found (c .before .before .before .before .before .before .before .before .before .before .before .before .before .before)) (exit-acts (found (c .before .before .before .before .before .before .before .before .before .before .before .before .before .before)) (c .before .before .before .before .before .before .before .before .before .before .before .before .match3 .keys11) (c .before .before .before .before .before .before .e-after-drop .ensures ∙ ap (eAfterDropOf (c .before .before .before .before .before .before .before .before .before .before .before .before .before .before .before .before .before .before .before .before .before .before .before .before .loop .regs .s - 1) (c .before .before .before .before .before .before .before .before .before .before .before .before .before .before .before .before .before .before .before .before .before .before .before .before .loop .regs .e)) (c .before .before .before .before .before .before .before .copy-of-s3 .ensures (c .before .before .before .before .before .before .before .before .before .before .before .before .before .before .before .before .before .before .before .before .before .before .before .before .loop .rows))) (c .before .before .before .before .copy-of-r3 .ensures (c .before .before .before .before .before .before .before .before .before .before .before .before .before .before .before .before .before .before .before .before .before .before .before .before .loop .rows)) (c .before .before .return-address .ensures (c .before .before .before .before .before .before .before .before .before .before .before .before .before .before .before .before .before .before .before .before .before .before .before .before .loop .copies))) (told saysExit (c .before .before .before .before .before .before .before .before .before .before .before .can-exit .ensures) (c .before .before .before .before .before .before .before .before .before .enum-told19 .given .1)) refl refl (c .before .price20 .ensures .0) (c .counted21 .ensures .0), (c .before .before .before .before .before .before .before .before .before .before .before .before .before .before .before .before .before .before .before .before .before .before .before .before .loop .inv .1))
 
-price-requires-19 : tie.Need-price-requires-19 Inv-loop μ-loop
-price-requires-19 c κs = c .before .before .before .before .before .before .before .before .before .before .before .before .loop .inv .1 .0
+price-requires-21 : tie.Need-price-requires-21 Inv-loop μ-loop
+price-requires-21 c κs = c .before .before .before .before .before .before .before .before .before .before .before .before .loop .inv .1 .0
 
-counted-requires-20 : tie.Need-counted-requires-20 Inv-loop μ-loop
-counted-requires-20 c κs = ((found (c .before .before .before)) .less, ((omega (arith, (c .before .before .before .before .before .before .before .before .before .before .before .before .before .loop .inv .0) .priced, (c .before .before .before .before .before .before .before .before .before .before .before .before .before .loop .inv .0) .limit, (c .before .before .before .before .before .before .before .before .before .before .before .before .before .loop .inv .0) .left-within, (found (c .before .before .before)) .less)), c .price19 .ensures .1))
+counted-requires-22 : tie.Need-counted-requires-22 Inv-loop μ-loop
+counted-requires-22 c κs = ((found (c .before .before .before)) .less, ((omega (arith, (c .before .before .before .before .before .before .before .before .before .before .before .before .before .loop .inv .0) .priced, (c .before .before .before .before .before .before .before .before .before .before .before .before .before .loop .inv .0) .limit, (c .before .before .before .before .before .before .before .before .before .before .before .before .before .loop .inv .0) .left-within, (found (c .before .before .before)) .less)), c .price21 .ensures .1))
 
 paused-requires : tie.Need-paused-requires Inv-loop μ-loop
 paused-requires c κs = search needs
 
-loop-less-33 : tie.Need-loop-less-33 Inv-loop μ-loop
-loop-less-33 c = omega (arith, c .before .counted20 .ensures .1, c .paused .ensures .1)
+loop-less-35 : tie.Need-loop-less-35 Inv-loop μ-loop
+loop-less-35 c = omega (arith, c .before .counted22 .ensures .1, c .paused .ensures .1)
 
-loop-again-33 : tie.Need-loop-again-33 Inv-loop μ-loop
-loop-again-33 c = (paused (found (c .before .before .before .before .before)) (pause-is (found (c .before .before .before .before .before)) (c .before .before .before .match3 .keys12)) refl (c .before .before .price19 .ensures .0) (c .before .before .before .match3 .keys12) (c .before .counted20 .ensures .0) (c .paused .ensures .0), (c .before .before .before .before .before .before .before .before .before .before .before .before .before .before .before .loop .inv .1))
+loop-again-35 : tie.Need-loop-again-35 Inv-loop μ-loop
+loop-again-35 c = (paused (found (c .before .before .before .before .before)) (pause-is (found (c .before .before .before .before .before)) (c .before .before .before .match3 .keys12)) refl (c .before .before .price21 .ensures .0) (c .before .before .before .match3 .keys12) (c .before .counted22 .ensures .0) (c .paused .ensures .0), (c .before .before .before .before .before .before .before .before .before .before .before .before .before .before .before .loop .inv .1))
 
 on-cells-requires : tie.Need-on-cells-requires Inv-loop μ-loop
 on-cells-requires c κs = ((c .before .before .before .before .before .before .before .before .before .before .before .before .before .loop .inv .0) .p-within, (omega (arith, c .before .before .if3 .left), (record { not07 = (c .before .match3 .rest .0 .0 .0 .0 .0 .0 .0 .0 .0 .0 .0 .1); not08 = (c .before .match3 .rest .0 .0 .0 .0 .0 .0 .0 .0 .0 .0 .1); not09 = (c .before .match3 .rest .0 .0 .0 .0 .0 .0 .0 .0 .0 .1); not0B = (c .before .match3 .rest .0 .0 .0 .0 .0 .0 .0 .0 .1); not0C = (c .before .match3 .rest .0 .0 .0 .0 .0 .0 .0 .1); not0D = (c .before .match3 .rest .0 .0 .0 .0 .0 .0 .1); not2D = (λ h. c .before .match3 .rest .0 .0 .0 .0 .0 .1 (inl h)); not2E = (λ h. c .before .match3 .rest .0 .0 .0 .0 .1 (inl h)); not2F = (λ h. c .before .match3 .rest .0 .0 .0 .0 .0 .1 (inr (inl h))); not30 = (λ h. c .before .match3 .rest .0 .0 .0 .0 .1 (inr (inl h))); not31 = (λ h. c .before .match3 .rest .0 .0 .0 .0 .0 .1 (inr (inr (h)))); not32 = (λ h. c .before .match3 .rest .0 .0 .0 .0 .1 (inr (inr (h)))); not38 = (c .before .match3 .rest .0 .0 .0 .1); not39 = (c .before .match3 .rest .0 .0 .1); not3D = (c .before .match3 .rest .0 .1); not3E = (c .before .match3 .rest .1) })))
@@ -893,23 +952,23 @@ enum-told-21 c = search needs
 by-done-requires-2 : tie.Need-by-done-requires-2 Inv-loop μ-loop
 by-done-requires-2 c κs = search needs
 
-loop-less-34 : tie.Need-loop-less-34 Inv-loop μ-loop
-loop-less-34 c = halted-less (c .before .before .before .before .before .before .before .before .before .before .before .before .before .before .before .before .before .loop .regs) (c .by-done2 .ensures) (ap saysDone (c .before .enum-told21 .given .1)) ((found (c .before .before .before .before .before .before .before)) .less)
+loop-less-36 : tie.Need-loop-less-36 Inv-loop μ-loop
+loop-less-36 c = halted-less (c .before .before .before .before .before .before .before .before .before .before .before .before .before .before .before .before .before .loop .regs) (c .by-done2 .ensures) (ap saysDone (c .before .enum-told21 .given .1)) ((found (c .before .before .before .before .before .before .before)) .less)
 
-loop-again-34 : tie.Need-loop-again-34 Inv-loop μ-loop
-loop-again-34 c = (cells-end (found (c .before .before .before .before .before .before .before)) (c .before .before .before .before .before .match3 .rest .0 .0 .0 .0 .0 .0 .1) (c .before .before .before .before .before .match3 .rest .1) (c .before .before .before .on-cells .ensures) (ap saysDone (c .before .enum-told21 .given .1)) (c .by-done2 .ensures), (c .before .before .before .before .before .before .before .before .before .before .before .before .before .before .before .before .before .loop .inv .1))
+loop-again-36 : tie.Need-loop-again-36 Inv-loop μ-loop
+loop-again-36 c = (cells-end (found (c .before .before .before .before .before .before .before)) (c .before .before .before .before .before .match3 .rest .0 .0 .0 .0 .0 .0 .1) (c .before .before .before .before .before .match3 .rest .1) (c .before .before .before .on-cells .ensures) (ap saysDone (c .before .enum-told21 .given .1)) (c .by-done2 .ensures), (c .before .before .before .before .before .before .before .before .before .before .before .before .before .before .before .before .before .loop .inv .1))
 
-price-requires-20 : tie.Need-price-requires-20 Inv-loop μ-loop
-price-requires-20 c κs = c .before .before .before .before .before .before .before .before .before .before .before .before .before .before .before .before .before .loop .inv .1 .0
+price-requires-22 : tie.Need-price-requires-22 Inv-loop μ-loop
+price-requires-22 c κs = c .before .before .before .before .before .before .before .before .before .before .before .before .before .before .before .before .before .loop .inv .1 .0
 
-counted-requires-21 : tie.Need-counted-requires-21 Inv-loop μ-loop
-counted-requires-21 c κs = ((found (c .before .before .before .before .before .before .before .before)) .less, ((omega (arith, (c .before .before .before .before .before .before .before .before .before .before .before .before .before .before .before .before .before .before .loop .inv .0) .priced, (c .before .before .before .before .before .before .before .before .before .before .before .before .before .before .before .before .before .before .loop .inv .0) .limit, (c .before .before .before .before .before .before .before .before .before .before .before .before .before .before .before .before .before .before .loop .inv .0) .left-within, (found (c .before .before .before .before .before .before .before .before)) .less)), c .price20 .ensures .1))
+counted-requires-23 : tie.Need-counted-requires-23 Inv-loop μ-loop
+counted-requires-23 c κs = ((found (c .before .before .before .before .before .before .before .before)) .less, ((omega (arith, (c .before .before .before .before .before .before .before .before .before .before .before .before .before .before .before .before .before .before .loop .inv .0) .priced, (c .before .before .before .before .before .before .before .before .before .before .before .before .before .before .before .before .before .before .loop .inv .0) .limit, (c .before .before .before .before .before .before .before .before .before .before .before .before .before .before .before .before .before .before .loop .inv .0) .left-within, (found (c .before .before .before .before .before .before .before .before)) .less)), c .price22 .ensures .1))
 
-loop-less-35 : tie.Need-loop-less-35 Inv-loop μ-loop
-loop-less-35 c = omega (arith, c .counted21 .ensures .1)
+loop-less-37 : tie.Need-loop-less-37 Inv-loop μ-loop
+loop-less-37 c = omega (arith, c .counted23 .ensures .1)
 
-loop-again-35 : tie.Need-loop-again-35 Inv-loop μ-loop
-loop-again-35 c = (goes (found (c .before .before .before .before .before .before .before .before .before)) (cells-acts (found (c .before .before .before .before .before .before .before .before .before)) (c .before .before .before .before .before .before .before .match3 .rest .0 .0 .0 .0 .0 .0 .1) (c .before .before .before .before .before .before .before .match3 .rest .1) (c .before .before .before .before .before .on-cells .ensures)) (ap saysDone (c .before .before .before .done2 .given .1)) refl refl (c .before .price20 .ensures .0) (c .counted21 .ensures .0), (c .before .before .before .before .before .before .before .before .before .before .before .before .before .before .before .before .before .before .before .loop .inv .1))
+loop-again-37 : tie.Need-loop-again-37 Inv-loop μ-loop
+loop-again-37 c = (goes (found (c .before .before .before .before .before .before .before .before .before)) (cells-acts (found (c .before .before .before .before .before .before .before .before .before)) (c .before .before .before .before .before .before .before .match3 .rest .0 .0 .0 .0 .0 .0 .1) (c .before .before .before .before .before .before .before .match3 .rest .1) (c .before .before .before .before .before .on-cells .ensures)) (ap saysDone (c .before .before .before .done2 .given .1)) refl refl (c .before .price22 .ensures .0) (c .counted23 .ensures .0), (c .before .before .before .before .before .before .before .before .before .before .before .before .before .before .before .before .before .before .before .loop .inv .1))
 
 same-length : tie.Need-same-length Inv-loop μ-loop
 same-length c = (c .before .before .loop .inv .0) .long ∙ sym ((c .before .before .loop .inv .0) .long₀)
@@ -1091,116 +1150,135 @@ rounds-spec =
     counted-requires-12
     loop-less-21
     loop-again-21
+    enum-known-spot-5
+    read-in-view-requires
+    sub-cells-7
+    mul-cells-10
+    element-write-cells-8
+    price-requires-12
+    counted-requires-13
+    loop-less-22
+    loop-again-22
     reach-requires-2
     enum-known-reached-2
     enum-told-14
     by-reach-requires-2
-    loop-less-22
-    loop-again-22
-    enum-known-spot-5
+    loop-less-23
+    loop-again-23
+    enum-known-spot-6
     sub-write-number
     mul-write-number
     element-copy-out-write-number
     write-number-requires
     sub-regs-6
-    price-requires-12
-    counted-requires-13
-    loop-less-23
-    loop-again-23
-    enum-known-spot-6
-    sub-write-own
-    mul-write-own
-    element-copy-out-write-own
-    write-own-requires
-    sub-regs-7
     price-requires-13
     counted-requires-14
     loop-less-24
     loop-again-24
     enum-known-spot-7
-    sub-set-local
-    mul-set-local
-    element-copy-out-set-local
-    set-local-requires
-    sub-regs-8
+    sub-write-own
+    mul-write-own
+    element-copy-out-write-own
+    write-own-requires
+    sub-regs-7
     price-requires-14
     counted-requires-15
     loop-less-25
     loop-again-25
     enum-known-spot-8
+    sub-set-local
+    mul-set-local
+    element-copy-out-set-local
+    set-local-requires
+    sub-regs-8
+    price-requires-15
+    counted-requires-16
+    loop-less-26
+    loop-again-26
+    enum-known-spot-9
     sub-set-cell
     mul-set-cell
     element-copy-out-set-cell
     set-cell-requires
     sub-regs-9
-    price-requires-15
-    counted-requires-16
-    loop-less-26
-    loop-again-26
+    price-requires-16
+    counted-requires-17
+    loop-less-27
+    loop-again-27
+    enum-known-spot-10
+    sub-write-in-view
+    mul-write-in-view
+    element-copy-out-write-in-view
+    write-in-view-requires
+    sub-regs-10
+    price-requires-17
+    counted-requires-18
+    loop-less-28
+    loop-again-28
     can-call-requires
     enum-told-15
     enum-told-16
     by-check-requires-5
-    loop-less-27
-    loop-again-27
+    loop-less-29
+    loop-again-29
     mul-returns-4
     element-write-returns-3
     called-requires-2
     add-regs-8
     add-regs-9
-    price-requires-16
-    counted-requires-17
-    loop-less-28
-    loop-again-28
+    price-requires-18
+    counted-requires-19
+    loop-less-30
+    loop-again-30
     can-call-requires-2
     enum-told-17
     enum-told-18
     by-check-requires-6
-    loop-less-29
-    loop-again-29
+    loop-less-31
+    loop-again-31
     sub-to-2
     mul-to-2
     element-copy-out-to-2
     mul-returns-5
     element-write-returns-4
     called-requires-3
-    sub-regs-10
+    sub-regs-11
     add-regs-10
     add-regs-11
-    price-requires-17
-    counted-requires-18
-    loop-less-30
-    loop-again-30
+    price-requires-19
+    counted-requires-20
+    loop-less-32
+    loop-again-32
     can-exit-requires
     enum-told-19
     enum-told-20
     by-exit-requires
-    loop-less-31
-    loop-again-31
-    sub-regs-11
+    loop-less-33
+    loop-again-33
+    sub-regs-12
     sub-e-after-drop
     copy-of-s-requires-3
     e-after-drop-requires
     copy-of-r-requires-3
     return-address-requires
-    price-requires-18
-    counted-requires-19
-    loop-less-32
-    loop-again-32
-    price-requires-19
-    counted-requires-20
+    price-requires-20
+    counted-requires-21
+    loop-less-34
+    loop-again-34
+    price-requires-21
+    counted-requires-22
     paused-requires
-    loop-less-33
-    loop-again-33
+    loop-less-35
+    loop-again-35
     on-cells-requires
     enum-known-done-2
     enum-told-21
     by-done-requires-2
-    loop-less-34
-    loop-again-34
-    price-requires-20
-    counted-requires-21
-    loop-less-35
-    loop-again-35
+    loop-less-36
+    loop-again-36
+    price-requires-22
+    counted-requires-23
+    loop-less-37
+    loop-again-37
     same-length
     returns)
