@@ -98,8 +98,10 @@ fn write_two_cells(
     let mut bytes = [0u8; 8];
     put_pair(&mut bytes, first, second);
     memory::write_number(&mut bytes, at - 4 * n, code, value);
-    set_cell_at(rows, s, e, n, memory::read_long(&bytes, 0));
-    set_cell_at(rows, s, e, n + 1, memory::read_long(&bytes, 4));
+    let first_after = memory::read_long(&bytes, 0);
+    let second_after = memory::read_long(&bytes, 4);
+    set_cell_at(rows, s, e, n, first_after);
+    set_cell_at(rows, s, e, n + 1, second_after);
 }
 
 // A byte lies in one cell.

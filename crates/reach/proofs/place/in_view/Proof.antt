@@ -1,4 +1,4 @@
--- Made by .ci/named from in_view.rules: f7b9cdd3fa4b6bdd 91d79608fb643279
+-- Made by .ci/named from in_view.rules: d1eb8835ffb51d46 14f1ea89c6006fff
 -- It ends past the cells, is not to the whole of a cell, or is.
 use native.Mathlib.Omega.{arith}
 use Rattle.reach.specs.Spots.{widthOf}
@@ -17,7 +17,7 @@ add-if1 : tie.Need-add-if1
 add-if1 c = search needs
 
 returns : tie.Need-returns
-returns c = (past-view (widthOf (c .before .before .args .code)) (c .before .before .args .address) (c .before .size-of .ensures .0) (c .if1 .taken), λ reach. tt)
+returns c = (past-view (widthOf (c .before .before .args .code)) (c .before .before .args .address) (c .before .size-of .ensures .0) (omega arith), λ reach. tt)
 
 sub-t8 : tie.Need-sub-t8
 sub-t8 c = search needs
