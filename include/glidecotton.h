@@ -28,8 +28,8 @@ enum {
     GLIDECOTTON_RESULT = 24,           /* bytes of a run's result */
     GLIDECOTTON_READ_RESULT = 8,       /* bytes of the reader's result */
     GLIDECOTTON_STACK = 16384,         /* bytes of stack that are enough for a call, but of tasks; rust/stack measures it. On Arm a run of a
-                                          state takes 14,896 at the most, a bench 4,528 and a read 3,632 */
-    GLIDECOTTON_TASKS_STACK = 98304    /* and for a call of glidecotton_run_tasks, which holds four machines; on Arm it takes 82,080 at
+                                          state takes 14,880 at the most, a bench 4,544 and a read 3,632 */
+    GLIDECOTTON_TASKS_STACK = 98304    /* and for a call of glidecotton_run_tasks, which holds four machines; on Arm it takes 84,272 at
                                           the most */
 };
 
