@@ -17,41 +17,43 @@
 enum {
     GLIDECOTTON_MEMORY = 32768,        /* bytes of memory, no more and no fewer */
     GLIDECOTTON_LONGEST_IMAGE = 33040, /* bytes of the longest good image file */
-    GLIDECOTTON_TEXT = 744,            /* bytes that always suffice for a text */
+    GLIDECOTTON_TEXT = 786,            /* bytes that always suffice for a text */
     GLIDECOTTON_BUDGET = 1000000,      /* the greatest budget of steps */
-    GLIDECOTTON_STATE = 3528,          /* bytes of a state */
-    GLIDECOTTON_TASK = 3536,           /* bytes of a task: its state, and the number that it keeps */
-    GLIDECOTTON_TASKS = 14144,         /* bytes of tasks 0 to 3, one after another */
+    GLIDECOTTON_STATE = 3536,          /* bytes of a state */
+    GLIDECOTTON_TASK = 3544,           /* bytes of a task: its state, and the number that it keeps */
+    GLIDECOTTON_TASKS = 14176,         /* bytes of tasks 0 to 3, one after another */
     GLIDECOTTON_QUANTUM = 1000,        /* the greatest quantum of steps; the least is 1 */
     GLIDECOTTON_SHARED = 16384,        /* bytes of memory that all tasks share, from address 0; their own parts follow in order */
     GLIDECOTTON_PART = 4096,           /* bytes of a task's own part */
     GLIDECOTTON_RESULT = 24,           /* bytes of a run's result */
     GLIDECOTTON_READ_RESULT = 8,       /* bytes of the reader's result */
-    GLIDECOTTON_STACK = 16384,         /* bytes of stack that are enough for a call, but of tasks; rust/stack measures it. On Arm a run of a
-                                          state takes 14,880 at the most, a bench 4,544 and a read 3,632 */
-    GLIDECOTTON_TASKS_STACK = 98304    /* and for a call of glidecotton_run_tasks, which holds four machines; on Arm it takes 84,272 at
-                                          the most */
+    GLIDECOTTON_STACK = 16384,         /* bytes of stack that are enough for a call, but of tasks; rust/stack measures it. On x86-64 a run of
+                                          a state takes 15,792 at the most, a bench 4,624 and a read 3,792 */
+    GLIDECOTTON_TASKS_STACK = 98304    /* and for a call of glidecotton_run_tasks, which holds four machines; on x86-64 it takes
+                                          82,992 at the most */
 };
 
-/* Where a state has what. All zeros are a fresh machine. A cell, an address, the counter and the flag take 4 bytes, a pointer or
-   a copy of one 8. */
+/* Where a state has what. All zeros are a fresh machine. A cell, an address, a thrown number, the counter and the flag take 4 bytes,
+   a pointer or a copy of one 8. */
 enum {
-    GLIDECOTTON_CELLS = 0,       /* 64 parameter cells, deepest first */
-    GLIDECOTTON_P = 256,         /* depth of the parameter stack */
-    GLIDECOTTON_RETURNS = 264,   /* 64 return cells, deepest first */
-    GLIDECOTTON_R = 520,         /* pointer of the return stack */
-    GLIDECOTTON_FRAMES = 528,    /* subroutine levels 0 to 32, 76 bytes each: 16 locals, copy of R, return address */
-    GLIDECOTTON_S = 3036,        /* pointer of the subroutine stack */
-    GLIDECOTTON_LEVELS = 3044,   /* exception levels 0 to 8, 52 bytes each: 8 cells, copy of S, copy of P, throw address */
-    GLIDECOTTON_E = 3512,        /* pointer of the exception stack */
-    GLIDECOTTON_COUNTER = 3520,  /* program counter */
-    GLIDECOTTON_FLAG = 3524      /* extend flag, 0 or 1 */
+    GLIDECOTTON_CELLS = 0,             /* 64 parameter cells, deepest first */
+    GLIDECOTTON_P = 256,               /* depth of the parameter stack */
+    GLIDECOTTON_RETURNS = 264,         /* 64 return cells, deepest first */
+    GLIDECOTTON_R = 520,               /* pointer of the return stack */
+    GLIDECOTTON_FRAMES = 528,          /* subroutine levels 0 to 32, 76 bytes each: 16 locals, copy of R, return address */
+    GLIDECOTTON_S = 3036,              /* pointer of the subroutine stack */
+    GLIDECOTTON_LEVELS = 3044,         /* exception levels 0 to 8, 52 bytes each: 8 cells, copy of S, copy of P, throw address */
+    GLIDECOTTON_E = 3512,              /* pointer of the exception stack */
+    GLIDECOTTON_COUNTER = 3520,        /* program counter */
+    GLIDECOTTON_FLAG = 3524,           /* extend flag, 0 or 1 */
+    GLIDECOTTON_THROWN_ADDRESS = 3528, /* address of the last THROW of anything but 0 that was carried out */
+    GLIDECOTTON_THROWN_CODE = 3532     /* and the number that it threw, 0 where there was none; a host may set both to anything */
 };
 
 /* Where a task has what besides its state, and what stands there. A fresh task is all zeros and then GLIDECOTTON_READY; one that is
    all zeros keeps 0, as if it had finished, and never has a turn. */
 enum {
-    GLIDECOTTON_KEPT = 3528,     /* 8 bytes: GLIDECOTTON_READY, or the answer with which the task left: 0, 3 to 13 or 17 */
+    GLIDECOTTON_KEPT = 3536,     /* 8 bytes: GLIDECOTTON_READY, or the answer with which the task left: 0, 3 to 13 or 17 */
     GLIDECOTTON_READY = 1
 };
 

@@ -17,6 +17,9 @@ void put_number(uint8_t *bytes, size_t width, uint64_t value);
 uint64_t pointer(const uint8_t *bytes, size_t at);
 uint64_t cell(const uint8_t *bytes, size_t at);
 
+/* Prints the numbers of a state that end the bench program's line: counter, P, R, S and E, address and code of the last throw. */
+void show_state(const uint8_t *state);
+
 struct counted counted_in(const uint8_t *result);
 
 /* What this run answers, with the steps and cycles of those before it added. */

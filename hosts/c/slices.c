@@ -12,9 +12,8 @@
 #include "image.h"
 
 static void show_line(struct counted all, const uint8_t *state) {
-    printf("%" PRIu64 " %" PRIu64 " %" PRIu64 " %" PRIu64 " ", all.answer, all.steps, all.cycles, cell(state, GLIDECOTTON_COUNTER));
-    printf("%" PRIu64 " %" PRIu64 " ", pointer(state, GLIDECOTTON_P), pointer(state, GLIDECOTTON_R));
-    printf("%" PRIu64 " %" PRIu64 "\n", pointer(state, GLIDECOTTON_S), pointer(state, GLIDECOTTON_E));
+    printf("%" PRIu64 " %" PRIu64 " %" PRIu64 " ", all.answer, all.steps, all.cycles);
+    show_state(state);
 }
 
 static void show_cells(const uint8_t *state) {

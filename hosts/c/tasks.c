@@ -2,7 +2,8 @@
 
    tasks IMAGE-FILE QUANTUM STEPS lends the tasks so many steps a run, in turns of at most a quantum, until no task is ready or the
    image's own budget is spent. After each run it prints the answer, and all steps and cycles so far; then for each word the number that its
-   task keeps, its counter, P, R, S and E. At the end it prints what the words have left in their own parts. */
+   task keeps, its counter, P, R, S and E, and the address and code of its last throw. At the end it prints what the words have left in their
+   own parts. */
 
 #include <inttypes.h>
 #include <stdio.h>
@@ -31,9 +32,8 @@ static void make_ready(uint8_t *tasks, int t) {
 
 static void show_task(const uint8_t *tasks, int t) {
     const uint8_t *state = tasks + t * GLIDECOTTON_TASK;
-    printf("  %s %" PRIu64 " %" PRIu64 " ", names[t], pointer(state, GLIDECOTTON_KEPT), cell(state, GLIDECOTTON_COUNTER));
-    printf("%" PRIu64 " %" PRIu64 " ", pointer(state, GLIDECOTTON_P), pointer(state, GLIDECOTTON_R));
-    printf("%" PRIu64 " %" PRIu64 "\n", pointer(state, GLIDECOTTON_S), pointer(state, GLIDECOTTON_E));
+    printf("  %s %" PRIu64 " ", names[t], pointer(state, GLIDECOTTON_KEPT));
+    show_state(state);
 }
 
 /* The first cell of each part is a count; behind the log's stand the reports that it took. */

@@ -18,9 +18,9 @@ enum {
     CATCH_CELLS = 8,
     MAX_BUDGET = 1000000,
     DEFAULT_BUDGET = 250000,
-    STATE_BYTES = 3528,
+    STATE_BYTES = 3536,
     RESULT_BYTES = 24,
-    TEXT_BYTES = 768
+    TEXT_BYTES = 800
 };
 
 enum { EXIT_CODE = 0x3D, PAUSE_CODE = 0x3E };
@@ -53,6 +53,8 @@ struct machine {
     uint64_t e;
     uint32_t pc;
     uint32_t flag;
+    uint32_t thrown_address; /* of the last THROW of non-zero that was carried out */
+    uint32_t thrown_code;
 };
 
 struct outcome {

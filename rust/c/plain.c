@@ -54,7 +54,9 @@ static char *report(char *to, const struct machine *m, struct outcome o) {
     to = decimal(to, m->p, ' ');
     to = decimal(to, m->r, ' ');
     to = decimal(to, m->s, ' ');
-    to = decimal(to, m->e, '\n');
+    to = decimal(to, m->e, ' ');
+    to = decimal(to, m->thrown_address, ' ');
+    to = decimal(to, m->thrown_code, '\n');
     for (uint64_t i = 0; i < m->p; i++) {
         for (int shift = 28; shift >= 0; shift -= 4) *to++ = "0123456789ABCDEF"[m->param[i] >> shift & 15];
         *to++ = '\n';
@@ -113,6 +115,8 @@ static void read_state(struct machine *m, const uint8_t *at) {
     m->e = take(&at, 8);
     m->pc = (uint32_t)take(&at, 4);
     m->flag = (uint32_t)take(&at, 4);
+    m->thrown_address = (uint32_t)take(&at, 4);
+    m->thrown_code = (uint32_t)take(&at, 4);
 }
 
 static void write_state(const struct machine *m, uint8_t *at) {
@@ -137,6 +141,8 @@ static void write_state(const struct machine *m, uint8_t *at) {
     give(&at, 8, m->e);
     give(&at, 4, m->pc);
     give(&at, 4, m->flag);
+    give(&at, 4, m->thrown_address);
+    give(&at, 4, m->thrown_code);
 }
 
 static void write_result(struct outcome o, uint8_t *at) {

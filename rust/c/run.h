@@ -131,6 +131,8 @@ static inline __attribute__((always_inline)) uint64_t instructions(struct machin
                 break;
             }
             if (e == 0) REFUSE(7);
+            m->thrown_address = pc;
+            m->thrown_code = n;
             next = m->levels[e].throw_to;
             s = m->levels[e].copy_s;
             r = m->frames[s + 1].copy_r;

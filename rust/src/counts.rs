@@ -58,13 +58,17 @@ impl Named {
         count.unwrap_or_else(|| panic!("{} has no {name}", self.what)).1 += 1;
     }
 
+    pub fn counts(&self) -> Vec<Counted> {
+        self.counts.clone()
+    }
+
     pub fn seldom(&self, least: u64) -> Vec<String> {
         let named = self.counts.iter().map(|(name, count)| (format!("{}: {name}", self.what), *count));
         seldom(named.collect(), least)
     }
 
     pub fn print(&self, f: &mut fmt::Formatter<'_>, across: usize, width: usize) -> fmt::Result {
-        columns(f, self.what, across, width, self.counts.clone())
+        columns(f, self.what, across, width, self.counts())
     }
 }
 

@@ -145,9 +145,10 @@ fn call(random: &mut Random, arena: Arena) -> Vec<u8> {
 }
 
 fn throw(random: &mut Random) -> Vec<u8> {
-    match random.below(4) {
-        0 => vec![0x0D],
-        1 => vec![0x20, 0x0D],
+    match random.below(8) {
+        0 | 1 => vec![0x0D],
+        2 | 3 => vec![0x20, 0x0D],
+        4 => [literal(cell(random)), vec![0x0D]].concat(),
         _ => vec![0x34, random.byte(), 0x0D],
     }
 }
@@ -211,15 +212,16 @@ pub fn ending(random: &mut Random, reach: Reach) -> Vec<u8> {
     if reach != Reach::Alone && random.percent(30) {
         return over_a_seam(random);
     }
-    match random.below(10) {
+    match random.below(11) {
         0 => vec![random.between(0x3F, 0x7F) as u8],
         1 => vec![random.pick(&[0x3A, 0x3B, 0x3C])],
         2 => vec![0x0C, 0x3D],
         3 => vec![0x0C, random.pick(&[0x08, 0x09, 0x01, 0x0E, 0x06])],
         4 => vec![0x20, random.pick(&[0x2B, 0x2C])],
         5 => vec![0x34, 1, 0x0D],
-        6 => [literal(address(random)), vec![random.between(0x2D, 0x32) as u8]].concat(),
-        7 | 8 => out_of_view(random),
+        6 => vec![0x0C, 0x0D],
+        7 => [literal(address(random)), vec![random.between(0x2D, 0x32) as u8]].concat(),
+        8 | 9 => out_of_view(random),
         _ => vec![random.pick(&[0x3D, 0x20, 0x07, 0x0B, 0x39])],
     }
 }

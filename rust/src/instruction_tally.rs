@@ -1,5 +1,5 @@
-//! The instructions that were completed, the levels they lost and the flags they found and left; and what was tried on
-//! the cells in view.
+//! The instructions that were completed, the levels they lost, the flags they found and left, and the last throws they set
+//! and left; and what was tried on the cells in view.
 
 use std::fmt;
 
@@ -7,7 +7,8 @@ use crate::counts::{columns, Counted};
 use crate::model::codes::{known_codes, row_of, Op};
 use crate::model::observer::{Observer, Seen};
 use crate::model::reach::Reach;
-use crate::model::state::{Machine, MEMORY};
+use crate::model::state::{Answer, Machine, MEMORY};
+use crate::throw_tally::ThrowTally;
 use crate::view_tally::ViewTally;
 
 const LOSERS: [&str; 3] = ["EXIT", "R>", "THROW"];
@@ -27,6 +28,7 @@ pub struct InstructionTally {
     flags: [[u64; 2]; SUMS.len()],
     /// How often each of `LEAVERS` left a flag that was not its own carry or borrow.
     left: [u64; LEAVERS.len()],
+    throws: ThrowTally,
     view: ViewTally,
 }
 
@@ -38,6 +40,7 @@ impl Default for InstructionTally {
             catches_lost: [0; 3],
             flags: Default::default(),
             left: Default::default(),
+            throws: ThrowTally::default(),
             view: ViewTally::default(),
         }
     }
@@ -50,6 +53,7 @@ impl Observer for InstructionTally {
 
     fn completed(&mut self, code: u8, before: Seen, after: Seen) {
         self.codes[usize::from(code)] += 1;
+        self.throws.completed(code, before, after);
         if let Some(sum) = SUMS.iter().position(|&sum| sum == code) {
             self.flags[sum][before.flag as usize] += 1;
         }
@@ -65,11 +69,23 @@ impl Observer for InstructionTally {
         self.frames_lost[loser] += u64::from(after.s < before.s);
         self.catches_lost[loser] += u64::from(after.e < before.e);
     }
+
+    fn refused(&mut self, code: u8, before: Seen, answer: Answer) {
+        self.throws.refused(code, before, answer);
+    }
 }
 
 impl InstructionTally {
     pub fn all(&self) -> Vec<Counted> {
-        [self.code_counts(), self.loss_counts(), self.flag_counts(), self.left_counts(), self.view.counts()].concat()
+        [
+            self.code_counts(),
+            self.loss_counts(),
+            self.flag_counts(),
+            self.left_counts(),
+            self.throws.counts(),
+            self.view.counts(),
+        ]
+        .concat()
     }
 
     /// How often an instruction was completed, its codes taken together.
@@ -116,6 +132,7 @@ impl fmt::Display for InstructionTally {
         columns(f, "levels lost", 3, 26, self.loss_counts())?;
         columns(f, "flag before a sum or difference", 4, 22, self.flag_counts())?;
         columns(f, "flag other than their own carry or borrow", 3, 22, self.left_counts())?;
+        columns(f, "last throws with no zero in them", 3, 30, self.throws.counts())?;
         columns(f, "accesses to the cells in view", 3, 26, self.view.counts())
     }
 }

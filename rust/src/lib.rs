@@ -29,6 +29,7 @@ pub mod state_bytes;
 pub mod states;
 pub mod tally;
 pub mod task_chains;
+pub mod throw_tally;
 pub mod touches;
 pub mod turn_tally;
 pub mod view_tally;

@@ -8,6 +8,8 @@ pub mod codes;
 #[cfg(test)]
 mod edges;
 pub mod image;
+#[cfg(test)]
+mod last_throw;
 pub mod links;
 pub mod observer;
 pub mod place;

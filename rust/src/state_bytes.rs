@@ -2,7 +2,7 @@
 
 use crate::model::reach::TASKS;
 use crate::model::run::Outcome;
-use crate::model::state::{Machine, CATCHES, CATCH_CELLS, CELLS, FRAMES, LOCALS};
+use crate::model::state::{LastThrow, Machine, CATCHES, CATCH_CELLS, CELLS, FRAMES, LOCALS};
 use crate::model::tasks::Task;
 
 const POINTER: usize = 8;
@@ -11,12 +11,12 @@ const FRAME: usize = LOCALS * CELL + POINTER + CELL;
 const CATCH: usize = CATCH_CELLS * CELL + 2 * POINTER + CELL;
 
 pub const STATE_BYTES: usize =
-    2 * (CELLS * CELL + POINTER) + (FRAMES + 1) * FRAME + POINTER + (CATCHES + 1) * CATCH + POINTER + 2 * CELL;
+    2 * (CELLS * CELL + POINTER) + (FRAMES + 1) * FRAME + POINTER + (CATCHES + 1) * CATCH + POINTER + 4 * CELL;
 pub const TASKS_BYTES: usize = TASKS * (STATE_BYTES + POINTER);
 pub const RESULT_BYTES: usize = 3 * POINTER;
 pub const READ_RESULT_BYTES: usize = POINTER;
 
-const _: () = assert!(STATE_BYTES == 3528 && TASKS_BYTES == 14_144);
+const _: () = assert!(STATE_BYTES == 3536 && TASKS_BYTES == 14_176);
 
 pub fn spell(machine: &Machine) -> Vec<u8> {
     let mut bytes = Vec::with_capacity(STATE_BYTES);
@@ -37,7 +37,8 @@ pub fn spell(machine: &Machine) -> Vec<u8> {
         put_cells(&mut bytes, &[catch.throw_address]);
     }
     put_pointer(&mut bytes, machine.e);
-    put_cells(&mut bytes, &[machine.program_counter, machine.flag]);
+    let LastThrow { address, code } = machine.last_throw;
+    put_cells(&mut bytes, &[machine.program_counter, machine.flag, address, code]);
     bytes
 }
 
@@ -56,4 +57,18 @@ fn put_cells(bytes: &mut Vec<u8>, cells: &[u32]) {
 
 fn put_pointer(bytes: &mut Vec<u8>, pointer: usize) {
     bytes.extend((pointer as u64).to_be_bytes());
+}
+
+#[cfg(test)]
+mod tests {
+    use super::*;
+
+    #[test]
+    fn the_last_throw_ends_a_state_and_a_kept_number_a_task() {
+        let last_throw = LastThrow { address: 0x0102_0304, code: 0x0506_0708 };
+        let task = Task { machine: Machine { last_throw, ..Machine::fresh() }, kept: 9 };
+        let bytes = spell_tasks(&[(); TASKS].map(|()| task.clone()));
+        assert_eq!(bytes.len(), TASKS_BYTES);
+        assert_eq!(bytes[3528..3544], [1, 2, 3, 4, 5, 6, 7, 8, 0, 0, 0, 0, 0, 0, 0, 9]);
+    }
 }

@@ -1,6 +1,6 @@
 //! States as a host could hand them in: well formed with anything in the cells that are not in use, or broken in one clause.
 
-use crate::model::state::{Catch, Frame, Machine, CATCHES, CELLS, FRAMES};
+use crate::model::state::{Catch, Frame, LastThrow, Machine, CATCHES, CELLS, FRAMES};
 use crate::operands::cell;
 use crate::random::Random;
 
@@ -20,6 +20,7 @@ pub fn well_formed(random: &mut Random) -> Machine {
         e,
         program_counter: 0,
         flag: random.below(2) as u32,
+        last_throw: LastThrow { address: cell(random), code: cell(random) },
     };
     for (level, copy) in rising(random, s, r).into_iter().enumerate() {
         machine.frames[level + 1].copy_of_r = copy;

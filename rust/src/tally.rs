@@ -8,8 +8,8 @@ use crate::instruction_tally::InstructionTally;
 use crate::model::state::Answer;
 use crate::turn_tally::TurnTally;
 
-/// Each code, answer, way of losing a level, flag before a sum or difference and access to the cells is to be seen at
-/// least so often.
+/// Each code, answer, way of losing a level, flag before a sum or difference, last throw that is set or left and access
+/// to the cells is to be seen at least so often.
 const LEAST: u64 = 500;
 /// Half of the programs run for at least so many steps.
 const LEAST_MEDIAN: u64 = 20;

@@ -9,10 +9,11 @@ use crate::instruction_tally::InstructionTally;
 use crate::model::codes::PAUSE_CODE;
 use crate::model::observer::{Observer, Seen};
 use crate::model::reach::{Reach, TASKS};
-use crate::model::state::{Answer, Machine, MEMORY};
+use crate::model::state::{Answer, LastThrow, Machine, MEMORY};
 use crate::model::tasks::Task;
 use crate::model::turn::Turn;
 use crate::task_chains::{Pace, ANSWERS_KEPT, KINDS};
+use crate::throw_tally::throws;
 use crate::touches::Touches;
 
 /// Everything here is to be seen at least so often.
@@ -68,12 +69,15 @@ pub struct TurnTally {
     next: Named,
     seams: Named,
     crossings: Named,
+    throwers: Named,
     instructions: InstructionTally,
     /// Of the instruction that is being tried.
     touches: Option<Touches>,
     last_code: u8,
     /// Who had the turn before.
     before: Option<usize>,
+    /// Who has a last throw.
+    has_thrown: [bool; TASKS],
 }
 
 impl Default for TurnTally {
@@ -94,10 +98,12 @@ impl Default for TurnTally {
                 "16,383 and 16,384 touched at once",
                 TOUCHERS.into_iter().flat_map(|toucher| TOUCHES.map(|touch| crossed(touch, toucher))),
             ),
+            throwers: Named::new("THROW while another has a last throw, by the task's number", 0..TASKS),
             instructions: InstructionTally::default(),
             touches: None,
             last_code: 0,
             before: None,
+            has_thrown: [false; TASKS],
         }
     }
 }
@@ -127,6 +133,7 @@ impl TurnTally {
         self.quanta.saw(stretch(&QUANTA, pace.quantum));
         self.budgets.saw(stretch(&BUDGETS, pace.budget));
         self.before = None;
+        self.has_thrown = tasks.each_ref().map(|task| task.machine.last_throw != LastThrow::default());
     }
 
     pub fn answer(&mut self, answer: Answer) {
@@ -147,6 +154,15 @@ impl TurnTally {
         if let Some(Touches { number, data: Some((bytes, touch)), .. }) = self.touches.take() {
             self.saw_touch(number, &bytes, touch);
         }
+    }
+
+    /// The instruction that was tried is a THROW of non-zero, and was carried out.
+    fn saw_throw(&mut self) {
+        let Some(Touches { number, .. }) = self.touches else { return };
+        if (0..TASKS).any(|other| other != number && self.has_thrown[other]) {
+            self.throwers.saw(number);
+        }
+        self.has_thrown[number] = true;
     }
 
     fn saw_end(&mut self, turn: Turn, quantum: u64, left: u64) {
@@ -185,7 +201,7 @@ impl TurnTally {
     }
 
     /// The lists, with the columns and the width of each.
-    fn named(&self) -> [(&Named, usize, usize); 9] {
+    fn named(&self) -> [(&Named, usize, usize); 10] {
         [
             (&self.kinds, 3, 26),
             (&self.answers, 6, 10),
@@ -196,6 +212,7 @@ impl TurnTally {
             (&self.next, 3, 26),
             (&self.seams, 3, 26),
             (&self.crossings, 3, 27),
+            (&self.throwers, 6, 10),
         ]
     }
 }
@@ -211,8 +228,15 @@ impl Observer for TurnTally {
 
     fn completed(&mut self, code: u8, before: Seen, after: Seen) {
         self.instructions.completed(code, before, after);
+        if throws(code, before) {
+            self.saw_throw();
+        }
         self.saw_data();
         self.last_code = code;
+    }
+
+    fn refused(&mut self, code: u8, before: Seen, answer: Answer) {
+        self.instructions.refused(code, before, answer);
     }
 
     fn turn_over(&mut self, number: usize, turn: Turn, quantum: u64, left: u64) {

@@ -18,6 +18,8 @@ pub mod Back
 pub mod Walk
 -- who touches the extend flag
 pub mod Flag
+-- the last THROW of a history
+pub mod Thrown
 -- sums and differences of double length
 pub mod Double
 -- a sample of them

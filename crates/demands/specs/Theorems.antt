@@ -20,6 +20,8 @@ pub mod Cases
 pub mod Worked
 -- nothing else touches the flag
 pub mod Flag
+-- a machine notes the last THROW of non-zero, and nothing else
+pub mod Thrown
 -- sums and differences of double length
 pub mod Double
 -- what they say of a sample

@@ -69,6 +69,10 @@ fn with_state(name: &[u8], machine: Machine) {
 fn main() {
     with_state(b"fresh", Machine::fresh());
     with_state(b"nested", states::nested([1, 2, 3], [1, 2], 63));
+    with_state(
+        b"last throw 4294967295",
+        states::noting(0xFFFFFFFF, 0xFFFFFFFF),
+    );
     with_good_memory(b"budget 1000000", Machine::fresh(), 1000000);
     with_good_memory(b"budget 1000001", Machine::fresh(), 1000001);
     with_short_memory(b"memory of 32767");

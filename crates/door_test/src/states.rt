@@ -1,7 +1,8 @@
-// States that break one clause of well-formedness each, and a nested one that breaks none.
+// States that break one clause of well-formedness each, and two that break none.
 use links::Frame;
 use links::Level;
 use links::Links;
+use machine::LastThrow;
 use machine::Machine;
 
 fn frame(r: usize) -> Frame {
@@ -50,5 +51,13 @@ pub(crate) fn pointing(p: usize, r: usize, s: usize, e: usize, flag: u32) -> Mac
     machine.p = p;
     machine.links = links;
     machine.flag = flag;
+    machine
+}
+
+// A fresh machine but for what it notes of a throw: any two numbers will do.
+pub(crate) fn noting(address: u32, code: u32) -> Machine {
+    let thrown = LastThrow { address, code };
+    let mut machine = Machine::fresh();
+    machine.thrown = thrown;
     machine
 }

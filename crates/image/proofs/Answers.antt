@@ -49,7 +49,7 @@ module _ (file : List ℕ) (spans : Spans) where
       → _≡_ {A = Returned}
       (record {
         says = gives tt;
-        machine = record { cells = cells; p = spans .cells .count; links = fresh .links; counter = fresh .counter; flag = fresh .flag };
+        machine = record { cells = cells; p = spans .cells .count; links = fresh .links; counter = fresh .counter; flag = fresh .flag; thrown = fresh .thrown };
         budget = budget;
       })
       (loadedFrom (imageIn file spans))
@@ -58,7 +58,7 @@ module _ (file : List ℕ) (spans : Spans) where
       let p : length (valuesIn file Cells (spans .cells)) ≡ spans .cells .count = length-list-at cellWidth (spans .cells .count) file (spans .cells .from) in
       λ t. record {
         says = gives tt;
-        machine = record { cells = c t; p = sym p t; links = f t .links; counter = f t .counter; flag = f t .flag };
+        machine = record { cells = c t; p = sym p t; links = f t .links; counter = f t .counter; flag = f t .flag; thrown = f t .thrown };
         budget = b t;
       }
 

@@ -4,7 +4,12 @@ use Prim.Native.Nat.{ℕ, _^_, _<_}
 use Rattle.plain.specs.All.{All}
 use Rattle.links.specs.Fits.{CellFits, PointerFits, LinksFit}
 use Rattle.machine.specs.State.{Whole}
+use Rattle.machine.specs.declared.LastThrow.{LastThrow}
 use Rattle.machine.specs.declared.Machine.{Machine}
+
+pub record ThrowFits (t : LastThrow) : Type 0 where
+  pub address-fits : CellFits (t .address)
+  pub code-fits : CellFits (t .code)
 
 pub record Fits (m : Machine) : Type 0 where
   pub cells-fit : All CellFits (m .cells)
@@ -12,6 +17,7 @@ pub record Fits (m : Machine) : Type 0 where
   pub links-fit : LinksFit (m .links)
   pub counter-fits : CellFits (m .counter)
   pub flag-fits : CellFits (m .flag)
+  pub thrown-fits : ThrowFits (m .thrown)
 
 -- every byte of a memory is one
 abbrev pub AllBytes : List ℕ → Type 0

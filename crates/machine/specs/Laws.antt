@@ -32,6 +32,8 @@ pub mod Accepted
 pub mod Acts
 -- readings that document 01 rules out
 pub mod Readings
+-- everything but a THROW of non-zero keeps what was noted last
+pub mod Noted
 -- the starred lines of the bench sheet
 pub mod Starred
 -- a step and a run keep what a machine and a memory that exist can hold

@@ -24,7 +24,7 @@ pub mod Run
 pub mod Tasks
 -- the starred lines of the bench sheet
 pub mod Sheet
--- where a THROW of non-zero goes on, and what S, R and P then are
+-- where a THROW of non-zero goes on, what S, R and P then are, and what it notes
 pub mod AfterThrow
 -- what a machine and a memory that exist can hold
 pub mod Fits

@@ -10,6 +10,7 @@ use Rattle.plain.specs.Zeros.{padded}
 use Rattle.links.specs.Depths.{cellsDepth}
 use Rattle.links.specs.Linked.{linked, Shaped}
 use Rattle.links.specs.Fresh.{freshLinks}
+use Rattle.machine.specs.declared.LastThrow.{LastThrow}
 use Rattle.machine.specs.declared.Machine.{Machine}
 
 -- P within its depth, the flag 0 or 1, the linked stacks well formed
@@ -21,9 +22,13 @@ pub record Whole (m : Machine) : Type 0 where
   pub cells-long : length (m .cells) ≡ cellsDepth
   pub shaped : Shaped (m .links)
 
+-- request P6: no THROW of non-zero was carried out yet
+abbrev pub noThrow : LastThrow
+noThrow = record { address = 0; code = 0 }
+
 -- a fresh machine but for its parameter cells and their depth
 abbrev pub freshWith : List ℕ → ℕ → Machine
-freshWith cells p = record { cells = cells; p = p; links = freshLinks; counter = 0; flag = 0 }
+freshWith cells p = record { cells = cells; p = p; links = freshLinks; counter = 0; flag = 0; thrown = noThrow }
 
 -- a fresh machine but for these parameter cells, deepest first
 unfoldable pub machineWith : List ℕ → Machine

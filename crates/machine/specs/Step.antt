@@ -5,11 +5,12 @@ use lib.Dec.{eqb}
 use lib.ListN.{length}
 use lib.Seq.{sets}
 use Rattle.plain.specs.Choice.{pick, both}
-use Rattle.links.specs.Actions.{act}
+use Rattle.links.specs.Actions.{Act, still, push, call, catch, exit, pop, throw, keep, reset, act}
 use Rattle.machine.specs.Codes.{entryAt, cyclesOf}
 use Rattle.machine.specs.Fetch.{Instruction, instructionAt}
 use Rattle.machine.specs.Rows.{Row, rowOf, top}
 use Rattle.machine.specs.Checks.{Test, tests}
+use Rattle.machine.specs.declared.LastThrow.{LastThrow}
 use Rattle.machine.specs.declared.Machine.{Machine}
 use Rattle.machine.specs.declared.Reach.{Reach}
 
@@ -19,7 +20,19 @@ pub data Stepped : Type 0 where
   -- the memory and the machine afterwards, and the instruction's clock cycles
   done : List ℕ → Machine → ℕ → Stepped
 
--- the machine after a row: its cells put, its links acted on, its counter and flag as the row says
+-- request P6: THROW of non-zero notes its own address and the number thrown; everything else keeps what was noted last
+abbrev pub noted : Act → Machine → LastThrow
+noted still m = m .thrown
+noted (push x) m = m .thrown
+noted (call address) m = m .thrown
+noted (catch address p) m = m .thrown
+noted exit m = m .thrown
+noted pop m = m .thrown
+noted throw m = record { address = m .counter; code = top m }
+noted (keep locals cells) m = m .thrown
+noted reset m = m .thrown
+
+-- the machine after a row: its cells put, its links acted on, its counter and flag as the row says, and a THROW noted
 abbrev pub put : Row → Machine → Machine
 put row m =
     record {
@@ -28,6 +41,7 @@ put row m =
       links = act (row .link) (m .links);
       counter = row .goes;
       flag = row .flag;
+      thrown = noted (row .link) m;
     }
 
 -- the cycle table's one exception

@@ -10,7 +10,7 @@ use Rattle.plain.specs.Answer.{notAsAsked}
 use Rattle.plain.specs.Choice.{pick, both}
 use Rattle.machine.specs.Limits.{memoryLength, mostBudget, mostQuantum, tasksCount}
 use Rattle.machine.specs.Reach.{task}
-use Rattle.machine.specs.State.{wellFormed, Whole, freshMachine}
+use Rattle.machine.specs.State.{wellFormed, Whole, noThrow, freshMachine}
 use Rattle.machine.specs.Run.{After, runFrom}
 use Rattle.machine.specs.declared.Machine.{Machine}
 use Rattle.machine.specs.declared.Tasks.{Tasks}
@@ -40,7 +40,7 @@ paired (m ∷ ms) (k ∷ ks) = taskOf m k ∷ paired ms ks
 -- past the last task there is none: nothing in it, and not ready
 abbrev pub noMachine : Machine
 noMachine =
-    record { cells = []; p = 0; links = record { returns = []; r = 0; frames = []; s = 0; levels = []; e = 0 }; counter = 0; flag = 0 }
+    record { cells = []; p = 0; links = record { returns = []; r = 0; frames = []; s = 0; levels = []; e = 0 }; counter = 0; flag = 0; thrown = noThrow }
 
 abbrev pub noTask : Task
 noTask = taskOf noMachine 0

@@ -7,13 +7,21 @@ mod turns;
 pub use costs::CYCLES;
 use links::Links;
 
-// The state: the parameter stack with its depth P, the three linked stacks, the program counter and the extend flag.
+// The state: the parameter stack with its depth P, the three linked stacks, the program counter, the extend flag, and where it was last
+// thrown.
 pub struct Machine {
     pub cells: [u32; Machine::CELLS],
     pub p: usize,
     pub links: Links,
     pub counter: u32,
     pub flag: u32,
+    pub thrown: LastThrow,
+}
+
+// The last THROW of non-zero that was carried out: its own address, and the number thrown.
+pub struct LastThrow {
+    pub address: u32,
+    pub code: u32,
 }
 
 // Completed instructions. Steps and cycles are two counters: neither can be added to the other or passed for it.

@@ -1,4 +1,5 @@
 // The fresh machine, the depths of its stacks, and the limits of a run.
+use crate::LastThrow;
 use crate::Machine;
 use links::Links;
 ghost use mathlib.Core.Path.{_≡_};
@@ -25,12 +26,17 @@ impl Machine {
     {
         let links = Links::fresh();
         let cells = [0u32; Machine::CELLS];
+        let thrown = LastThrow {
+            address: 0,
+            code: 0,
+        };
         Machine {
             cells,
             p: 0,
             links,
             counter: 0,
             flag: 0,
+            thrown,
         }
     }
 }

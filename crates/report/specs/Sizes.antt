@@ -10,7 +10,7 @@ longestField = mostDecimal + 1
 
 -- so many numbers stand on the line of a run
 abbrev pub fieldsCount : ℕ
-fieldsCount = 8
+fieldsCount = 10
 
 abbrev pub longestLine : ℕ
 longestLine = fieldsCount * longestField

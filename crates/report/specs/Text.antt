@@ -33,11 +33,12 @@ unfoldable pub cellLines : List ℕ → List ℕ
 cellLines [] = []
 cellLines (v ∷ vs) = cellLine v ++ cellLines vs
 
--- answer, steps, cycles, program counter, P, R, S, E
+-- answer, steps, cycles, program counter, P, R, S, E; with request P6 the address and the code of the last THROW of non-zero
 abbrev pub numbersOf : Ran → List ℕ
 numbersOf ran =
     ran .answer ∷ ran .steps .0 ∷ ran .cycles .0 ∷ ran .machine .counter ∷
-    ran .machine .p ∷ ran .machine .links .r ∷ ran .machine .links .s ∷ ran .machine .links .e ∷ []
+    ran .machine .p ∷ ran .machine .links .r ∷ ran .machine .links .s ∷ ran .machine .links .e ∷
+    ran .machine .thrown .address ∷ ran .machine .thrown .code ∷ []
 
 -- the text of a run: its numbers, then each parameter cell, deepest first
 unfoldable pub textOf : Ran → List ℕ

@@ -50,6 +50,7 @@ pub(crate) fn numbers_of(ran: Ran) -> [u64; FIELDS]
     let cycles = ran.cycles;
     let machine = ran.machine;
     let links = machine.links;
+    let thrown = machine.thrown;
     [
         ran.answer as u64,
         steps.0 as u64,
@@ -59,6 +60,8 @@ pub(crate) fn numbers_of(ran: Ran) -> [u64; FIELDS]
         links.r as u64,
         links.s as u64,
         links.e as u64,
+        thrown.address as u64,
+        thrown.code as u64,
     ]
 }
 

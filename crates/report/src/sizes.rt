@@ -6,7 +6,7 @@ use numbers::MOST_DECIMAL;
 pub(crate) const FIELD: usize = MOST_DECIMAL + 1;
 
 // So many numbers stand on the line of a run.
-pub(crate) const FIELDS: usize = 8;
+pub(crate) const FIELDS: usize = 10;
 
 // The last of them, which the line feed follows.
 pub(crate) const LAST: usize = FIELDS - 1;

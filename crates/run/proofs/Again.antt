@@ -1,4 +1,4 @@
--- A machine whose levels stand in rows is that machine again.
+-- A machine whose levels and last THROW stand in rows is that machine again.
 use mathlib.Core.Path.{_≡_, refl, ap, _∙_}
 use mathlib.Core.List.{List, []}
 use Prim.Native.Nat.{ℕ, suc, _+_}
@@ -13,24 +13,28 @@ use Rattle.links.specs.Fresh.{freshFrame, freshLevel, freshLinks}
 use Rattle.links.specs.declared.Frame.{Frame}
 use Rattle.links.specs.declared.Level.{Level}
 use Rattle.machine.specs.Limits.{tasksCount}
+use Rattle.machine.specs.State.{noThrow}
+use Rattle.machine.specs.declared.LastThrow.{LastThrow}
 use Rattle.machine.specs.declared.Machine.{Machine}
 use Rattle.run.specs.Machines.{linksOf}
-use Rattle.run.specs.Levels.{tabulated, copiesRoom, framesIn, levelsIn, Laid, Hold, AllLaid, pointersOf, inRows}
+use Rattle.run.specs.Levels.{tabulated, copiesRoom, rowsCount, framesIn, levelsIn, noteIn, Laid, Hold, AllLaid, pointersOf, inRows}
 use Rattle.run.specs.declared.Pointers.{Pointers}
 
-pub whole-again : (m : Machine) {rows : List (List ℕ)} {copies : List ℕ} → Hold rows copies (m .links .frames) (m .links .levels) → {at : Pointers} → at ≡ pointersOf m →
+pub whole-again : (m : Machine) {rows : List (List ℕ)} {copies : List ℕ} → Hold rows copies (m .links .frames) (m .links .levels) (m .thrown) → {at : Pointers} → at ≡ pointersOf m →
     inRows (m .cells) (m .links .returns) rows copies at ≡ m
 whole-again m {rows} {copies} held e =
     ap (λ (at : Pointers). inRows (m .cells) (m .links .returns) rows copies at) e ∙
-    (ap (λ (frames : List Frame). with-levels frames (levelsIn rows copies)) (held .frames-are) ∙ ap (with-levels (m .links .frames)) (held .levels-are))
+    (ap (λ (frames : List Frame). with-levels frames (levelsIn rows copies) (noteIn rows)) (held .frames-are) ∙
+    (ap (λ (levels : List Level). with-levels (m .links .frames) levels (noteIn rows)) (held .levels-are) ∙
+    ap (with-levels (m .links .frames) (m .links .levels)) (held .note-is)))
   where
-    with-levels : List Frame → List Level → Machine
-    with-levels frames levels =
-        record { cells = m .cells; p = m .p; links = linksOf (m .links .returns) (m .links .r) frames (m .links .s) levels (m .links .e); counter = m .counter; flag = m .flag }
+    with-levels : List Frame → List Level → LastThrow → Machine
+    with-levels frames levels thrown =
+        record { cells = m .cells; p = m .p; links = linksOf (m .links .returns) (m .links .r) frames (m .links .s) levels (m .links .e); counter = m .counter; flag = m .flag; thrown = thrown }
 
 -- rows of zeros
 abbrev pub zeroRows : List (List ℕ)
-zeroRows = replicate (framesCount + levelsCount) (replicate (suc localsCount) 0)
+zeroRows = replicate rowsCount (replicate (suc localsCount) 0)
 
 abbrev pub zeroCopies : List ℕ
 zeroCopies = replicate copiesRoom 0
@@ -42,15 +46,15 @@ pub zeros-laid : Laid zeroRows zeroCopies
 zeros-laid =
     record {
       rows-long = refl;
-      rows-wide = all-replicate (λ (row : List ℕ). length row ≡ suc localsCount) (framesCount + levelsCount) (replicate (suc localsCount) 0) refl;
+      rows-wide = all-replicate (λ (row : List ℕ). length row ≡ suc localsCount) rowsCount (replicate (suc localsCount) 0) refl;
       copies-long = refl;
-      locals-fit = λ s h. rw (getD-replicate (framesCount + levelsCount) s (replicate {A = ℕ} (suc localsCount) 0) [] (omega arith)) (zeros-fit localsCount);
-      cells-fit = λ e h. rw (getD-replicate (framesCount + levelsCount) (framesCount + e) (replicate {A = ℕ} (suc localsCount) 0) [] (omega arith)) (zeros-fit levelCells);
+      locals-fit = λ s h. rw (getD-replicate rowsCount s (replicate {A = ℕ} (suc localsCount) 0) [] (omega arith)) (zeros-fit localsCount);
+      cells-fit = λ e h. rw (getD-replicate rowsCount (framesCount + e) (replicate {A = ℕ} (suc localsCount) 0) [] (omega arith)) (zeros-fit levelCells);
     }
 
-pub zeros-fresh : Hold zeroRows zeroCopies (freshLinks .frames) (freshLinks .levels)
-unfolding framesIn levelsIn tabulated freshLinks freshFrame freshLevel noLocals
-zeros-fresh = record { laid = zeros-laid; frames-are = refl; levels-are = refl }
+pub zeros-fresh : Hold zeroRows zeroCopies (freshLinks .frames) (freshLinks .levels) noThrow
+unfolding framesIn levelsIn noteIn tabulated freshLinks freshFrame freshLevel noLocals
+zeros-fresh = record { laid = zeros-laid; frames-are = refl; levels-are = refl; note-is = refl }
 
 -- and rows of zeros for each of four
 pub all-zeros-laid : AllLaid (replicate tasksCount zeroRows) (replicate tasksCount zeroCopies)

@@ -1,20 +1,21 @@
--- Levels in rows: what a store to a row or to the copies makes of them.
+-- Levels and the last THROW in rows: what a store to a row or to the copies makes of them.
 use mathlib.Core.Logic.{_≢_}
 use mathlib.Core.Path.{_≡_, refl, ap, sym, _∙_, subst⁻¹}
 use mathlib.Core.List.{List, [], _∷_}
 use Prim.Native.Nat.{ℕ, zero, suc, _+_, _<_}
 use native.Mathlib.Omega.{arith}
 use lib.ListN.{getD, set, take, length, length-set, replicate}
-use lib.Seq.{getD-set-same, getD-set-other, take-set-lt, take-set-le}
+use lib.Seq.{getD-set-same, getD-set-other, set-set, take-set-lt, take-set-le}
 use Rattle.links.specs.Actions.{noLocals, calledFrame, withLocals, withCells}
 use Rattle.links.specs.Depths.{framesCount, levelsCount, localsCount, levelCells, subroutinesDepth, exceptionsDepth}
 use Rattle.links.specs.Fits.{CellFits}
 use Rattle.links.specs.Linked.{noFrame, noLevel, copyOfR, copyOfS, copyOfP}
 use Rattle.links.specs.declared.Frame.{Frame}
 use Rattle.links.specs.declared.Level.{Level}
+use Rattle.machine.specs.declared.LastThrow.{LastThrow}
 use Rattle.plain.specs.All.{All}
 use Rattle.plain.specs.Laws.All.{all-at, all-set, all-replicate}
-use Rattle.run.specs.Levels.{frameOf, levelOf, copiesRoom, framesIn, levelsIn, Laid, Hold}
+use Rattle.run.specs.Levels.{frameOf, levelOf, copiesRoom, noteRow, rowsCount, framesIn, levelsIn, noteIn, Laid, Hold}
 use Rattle.run.proofs.Tabled.{length-tabulated, tabulated-at, tabulated-same, tabulated-set}
 
 -- a row as wide as a level and its address
@@ -35,6 +36,11 @@ either P (y ∷ ys) zero x zero d new old = new
 either P (y ∷ ys) zero x (suc i) d new old = old
 either P (y ∷ ys) (suc n) x zero d new old = old
 either P (y ∷ ys) (suc n) x (suc i) d new old = either P ys n x i d new old
+
+-- a store into an element that was stored just now
+pub set-in : (l : List (List ℕ)) (n : ℕ) (x : List ℕ) (k value : ℕ) → n < length l →
+    set (set l n x) n (set (getD (set l n x) n []) k value) ≡ set l n (set x k value)
+set-in l n x k value h = ap (λ (y : List ℕ). set (set l n x) n (set y k value)) (getD-set-same l n x [] h) ∙ set-set l n x (set x k value)
 
 -- two lists that agree at a place
 abbrev Alike : {A : Type 0} → List A → List A → A → ℕ → Type 0
@@ -111,7 +117,7 @@ module _ (rows : List (List ℕ)) where
 -- the levels after a store
 module _ (rows : List (List ℕ)) (copies : List ℕ) (laid : Laid rows copies) where
   -- every row is as wide as a level and its address
-  pub wide-at : (n : ℕ) → n < framesCount + levelsCount → length (getD rows n []) ≡ suc localsCount
+  pub wide-at : (n : ℕ) → n < rowsCount → length (getD rows n []) ≡ suc localsCount
   wide-at n h = all-at Wide rows (laid .rows-wide) n [] (omega (arith, laid .rows-long))
 
   with-frame : (n : ℕ) (row : List ℕ) → n < framesCount → length row ≡ suc localsCount → LocalsFit row → (copies′ : List ℕ) → length copies′ ≡ copiesRoom →
@@ -136,10 +142,15 @@ module _ (rows : List (List ℕ)) (copies : List ℕ) (laid : Laid rows copies) 
         cells-fit = λ e less. either CellsFit rows (framesCount + n) row (framesCount + e) [] fit (laid .cells-fit e less);
       }
 
+  -- a store to a level leaves the THROW
+  note-kept : (n : ℕ) (row : List ℕ) → n < noteRow → noteIn (set rows n row) ≡ noteIn rows
+  unfolding noteIn
+  note-kept n row h = rw (getD-set-other rows n noteRow row [] (λ e. omega arith))
+
   -- to one number of a row
   pub local-stored : (s k value : ℕ) → s < framesCount → k < localsCount → CellFits value →
       let frame = getD (framesIn rows copies) s noFrame in
-      Hold (set rows s (set (getD rows s []) k value)) copies (set (framesIn rows copies) s (withLocals (set (frame .locals) k value) frame)) (levelsIn rows copies)
+      Hold (set rows s (set (getD rows s []) k value)) copies (set (framesIn rows copies) s (withLocals (set (frame .locals) k value) frame)) (levelsIn rows copies) (noteIn rows)
   local-stored s k value h within fits =
       let old = getD rows s [] in
       let row = set old k value in
@@ -156,12 +167,13 @@ module _ (rows : List (List ℕ)) (copies : List ℕ) (laid : Laid rows copies) 
         levels-are =
             levels-same rows copies (set rows s row) copies (λ i less. getD-set-other rows s (framesCount + i) row [] (λ e. omega arith)) (λ i less. refl)
             (λ i less. refl);
+        note-is = note-kept s row (omega arith);
       }
 
   pub cell-stored : (e k value : ℕ) → e < levelsCount → k < levelCells → CellFits value →
       let level = getD (levelsIn rows copies) e noLevel in
       Hold (set rows (framesCount + e) (set (getD rows (framesCount + e) []) k value)) copies (framesIn rows copies)
-      (set (levelsIn rows copies) e (withCells (set (level .cells) k value) level))
+      (set (levelsIn rows copies) e (withCells (set (level .cells) k value) level)) (noteIn rows)
   cell-stored e k value h within fits =
       let at = framesCount + e in
       let old = getD rows at [] in
@@ -178,11 +190,12 @@ module _ (rows : List (List ℕ)) (copies : List ℕ) (laid : Laid rows copies) 
             level-anew rows copies (set rows at row) copies e (withCells (set (getD (levelsIn rows copies) e noLevel .cells) k value) (getD (levelsIn rows copies) e noLevel)) h
             (rw (level-there rows copies e h, there, front, end)) (λ i less ne. getD-set-other rows at (framesCount + i) row [] (λ e. ne (omega arith)))
             (λ i less ne. refl) (λ i less ne. refl);
+        note-is = note-kept at row (omega arith);
       }
 
   -- of a whole row, with its copies
   pub frame-put : (n : ℕ) (row : List ℕ) (r : ℕ) → n < framesCount → length row ≡ suc localsCount → LocalsFit row →
-      Hold (set rows n row) (set copies n r) (set (framesIn rows copies) n (record { locals = take localsCount row; r = r; address = getD row localsCount 0 })) (levelsIn rows copies)
+      Hold (set rows n row) (set copies n r) (set (framesIn rows copies) n (record { locals = take localsCount row; r = r; address = getD row localsCount 0 })) (levelsIn rows copies) (noteIn rows)
   frame-put n row r h wide fit =
       let there : getD (set rows n row) n [] ≡ row = getD-set-same rows n row [] (omega (arith, laid .rows-long)) in
       let copied : getD (set copies n r) n 0 ≡ r = getD-set-same copies n r 0 (omega (arith, laid .copies-long)) in
@@ -195,11 +208,12 @@ module _ (rows : List (List ℕ)) (copies : List ℕ) (laid : Laid rows copies) 
             levels-same rows copies (set rows n row) (set copies n r) (λ i less. getD-set-other rows n (framesCount + i) row [] (λ e. omega arith))
             (λ i less. getD-set-other copies n (framesCount + i) r 0 (λ e. omega arith))
             (λ i less. getD-set-other copies n (framesCount + levelsCount + i) r 0 (λ e. omega arith));
+        note-is = note-kept n row (omega arith);
       }
 
   pub level-put : (n : ℕ) (row : List ℕ) (s p : ℕ) → n < levelsCount → length row ≡ suc localsCount → CellsFit row →
       Hold (set rows (framesCount + n) row) (set (set copies (framesCount + n) s) (framesCount + levelsCount + n) p) (framesIn rows copies)
-      (set (levelsIn rows copies) n (record { cells = take levelCells row; s = s; p = p; address = getD row localsCount 0 }))
+      (set (levelsIn rows copies) n (record { cells = take levelCells row; s = s; p = p; address = getD row localsCount 0 })) (noteIn rows)
   level-put n row s p h wide fit =
       let at = framesCount + n in
       let beside = framesCount + levelsCount + n in
@@ -220,12 +234,13 @@ module _ (rows : List (List ℕ)) (copies : List ℕ) (laid : Laid rows copies) 
             (rw (there, copied-s, copied-p)) (λ i less ne. getD-set-other rows at (framesCount + i) row [] (λ e. ne (omega arith)))
             (λ i less ne. other (framesCount + i) (λ e. ne (omega arith)) (λ e. omega arith))
             (λ i less ne. other (framesCount + levelsCount + i) (λ e. omega arith) (λ e. ne (omega arith)));
+        note-is = note-kept at row (omega arith);
       }
 
   -- a call makes the level above
   pub called-made : (s r address : ℕ) → s < subroutinesDepth →
       Hold (set rows (s + 1) (set (replicate (suc localsCount) 0) localsCount address)) (set copies (s + 1) r) (set (framesIn rows copies) (s + 1) (calledFrame r address))
-      (levelsIn rows copies)
+      (levelsIn rows copies) (noteIn rows)
   unfolding noLocals
   called-made s r address h =
       frame-put (s + 1) (set (replicate (suc localsCount) 0) localsCount address) r (omega arith) refl (all-replicate CellFits localsCount 0 (omega arith))
@@ -234,7 +249,7 @@ module _ (rows : List (List ℕ)) (copies : List ℕ) (laid : Laid rows copies) 
   pub caught-made : (e s p address : ℕ) → e < exceptionsDepth →
       Hold (set rows (framesCount + e + 1) (set (getD rows (framesCount + e) []) localsCount address))
       (set (set copies (framesCount + e + 1) s) (framesCount + levelsCount + e + 1) p) (framesIn rows copies)
-      (set (levelsIn rows copies) (e + 1) (record { cells = getD (levelsIn rows copies) e noLevel .cells; s = s; p = p; address = address }))
+      (set (levelsIn rows copies) (e + 1) (record { cells = getD (levelsIn rows copies) e noLevel .cells; s = s; p = p; address = address })) (noteIn rows)
   caught-made e s p address h =
       let below = getD rows (framesCount + e) [] in
       let row = set below localsCount address in
@@ -251,12 +266,45 @@ module _ (rows : List (List ℕ)) (copies : List ℕ) (laid : Laid rows copies) 
       let fit : CellsFit row = subst⁻¹ (All CellFits) (take-set-le levelCells below localsCount address (omega arith)) (laid .cells-fit e (omega arith)) in
       let put = level-put (e + 1) row s p (omega arith) (length-set below localsCount address ∙ wide) fit in
       rw (up, beside)
-      (record { laid = put .laid; frames-are = put .frames-are; levels-are = put .levels-are ∙ ap (λ (l : Level). set (levelsIn rows copies) (e + 1) l) made })
+      (record { laid = put .laid; frames-are = put .frames-are; levels-are = put .levels-are ∙ ap (λ (l : Level). set (levelsIn rows copies) (e + 1) l) made; note-is = put .note-is })
+
+  -- a THROW is noted behind the levels
+  pub note-made : (address code : ℕ) →
+      let once = set rows noteRow (set (getD rows noteRow []) 0 address) in
+      Hold (set once noteRow (set (getD once noteRow []) 1 code)) copies (framesIn rows copies) (levelsIn rows copies) (record { address = address; code = code })
+  unfolding noteIn
+  note-made address code =
+      let old = getD rows noteRow [] in
+      let first = set old 0 address in
+      let row = set first 1 code in
+      let rows′ = set rows noteRow row in
+      let within : noteRow < length rows = omega (arith, laid .rows-long) in
+      let wide : length old ≡ suc localsCount = wide-at noteRow (omega arith) in
+      let wider : length first ≡ suc localsCount = length-set old 0 address ∙ wide in
+      let there : getD rows′ noteRow [] ≡ row = getD-set-same rows noteRow row [] within in
+      let noted : getD row 0 0 ≡ address = getD-set-other first 1 0 code 0 (λ e. omega arith) ∙ getD-set-same old 0 address 0 (omega (arith, wide)) in
+      let coded : getD row 1 0 ≡ code = getD-set-same first 1 code 0 (omega (arith, wider)) in
+      rw (set-in rows noteRow first 1 code within)
+      (record {
+        laid =
+            record {
+              rows-long = length-set rows noteRow row ∙ laid .rows-long;
+              rows-wide = all-set Wide rows (laid .rows-wide) noteRow row (length-set first 1 code ∙ wider);
+              copies-long = laid .copies-long;
+              locals-fit = λ s less. subst⁻¹ LocalsFit (getD-set-other rows noteRow s row [] (λ same. omega arith)) (laid .locals-fit s less);
+              cells-fit = λ e less. subst⁻¹ CellsFit (getD-set-other rows noteRow (framesCount + e) row [] (λ same. omega arith)) (laid .cells-fit e less);
+            };
+        frames-are = frames-same rows copies rows′ copies (λ i less. getD-set-other rows noteRow i row [] (λ e. omega arith)) (λ i less. refl);
+        levels-are =
+            levels-same rows copies rows′ copies (λ i less. getD-set-other rows noteRow (framesCount + i) row [] (λ e. omega arith)) (λ i less. refl) (λ i less. refl);
+        note-is = rw (there, noted, coded);
+      })
 
 -- a CATCH does all that a call does first
-pub caught-above : {rows rows′ : List (List ℕ)} {copies copies′ : List ℕ} {frames : List Frame} {levels : List Level} (e s p address : ℕ) → Hold rows copies frames levels →
-    Hold rows′ copies′ (framesIn rows copies) (set (levelsIn rows copies) (e + 1) (record { cells = getD (levelsIn rows copies) e noLevel .cells; s = s; p = p; address = address })) →
-    Hold rows′ copies′ frames (set levels (e + 1) (record { cells = getD levels e noLevel .cells; s = s; p = p; address = address }))
+pub caught-above : {rows rows′ : List (List ℕ)} {copies copies′ : List ℕ} {frames : List Frame} {levels : List Level} {thrown : LastThrow} (e s p address : ℕ) →
+    Hold rows copies frames levels thrown →
+    Hold rows′ copies′ (framesIn rows copies) (set (levelsIn rows copies) (e + 1) (record { cells = getD (levelsIn rows copies) e noLevel .cells; s = s; p = p; address = address })) (noteIn rows) →
+    Hold rows′ copies′ frames (set levels (e + 1) (record { cells = getD levels e noLevel .cells; s = s; p = p; address = address })) thrown
 caught-above e s p address call catch =
     record {
       laid = catch .laid;
@@ -264,4 +312,5 @@ caught-above e s p address call catch =
       levels-are =
           catch .levels-are ∙
           ap (λ (l : List Level). set l (e + 1) (record { cells = getD l e noLevel .cells; s = s; p = p; address = address })) (call .levels-are);
+      note-is = catch .note-is ∙ call .note-is;
     }

@@ -4,20 +4,15 @@ use mathlib.Core.List.{List, [], _++_, append-nil}
 use Prim.Native.Nat.{ℕ, suc, _+_, _<_, _≤_}
 use native.Mathlib.Omega.{arith}
 use lib.ListN.{getD, set, take, drop, length, length-set, drop-of-length-le}
-use lib.Seq.{getD-set-same, set-set, take-set-le, take-all, take-at, length-take-le, length-front}
+use lib.Seq.{getD-set-same, take-set-le, take-all, take-at, length-take-le, length-front}
 use Rattle.plain.specs.All.{All}
 use Rattle.links.specs.Depths.{framesCount, levelsCount, localsCount, levelCells}
 use Rattle.links.specs.Fits.{CellFits}
 use Rattle.links.specs.Linked.{noFrame, noLevel}
 use Rattle.links.specs.declared.Frame.{Frame}
 use Rattle.links.specs.declared.Level.{Level}
-use Rattle.run.specs.Levels.{framesIn, levelsIn, Laid, Hold}
-use Rattle.run.proofs.Levels.{frame-there, level-there, wide-at, frame-put, level-put}
-
--- a store into an element that was stored just now
-set-in : (l : List (List ℕ)) (n : ℕ) (x : List ℕ) (k value : ℕ) → n < length l →
-    set (set l n x) n (set (getD (set l n x) n []) k value) ≡ set l n (set x k value)
-set-in l n x k value h = ap (λ (y : List ℕ). set (set l n x) n (set y k value)) (getD-set-same l n x [] h) ∙ set-set l n x (set x k value)
+use Rattle.run.specs.Levels.{framesIn, levelsIn, noteIn, Laid, Hold}
+use Rattle.run.proofs.Levels.{set-in, frame-there, level-there, wide-at, frame-put, level-put}
 
 -- a row with a level's numbers at its front and the level's address at its end
 record Written (count : ℕ) (values : List ℕ) (address : ℕ) (row : List ℕ) : Type 0 where
@@ -60,7 +55,7 @@ module _ (rows : List (List ℕ)) (copies : List ℕ) (n : ℕ) where
     pub frame-written : (frame : Frame) (row : List ℕ) → n < framesCount → length (frame .locals) ≡ localsCount →
         row ≡ take localsCount (frame .locals) ++ drop localsCount (getD rows n []) → All CellFits (take localsCount (frame .locals)) →
         Hold (set (set rows n row) n (set (getD (set rows n row) n []) localsCount (frame .address))) (set copies n (frame .r)) (set (framesIn rows copies) n frame)
-        (levelsIn rows copies)
+        (levelsIn rows copies) (noteIn rows)
     frame-written frame row h long is fit =
         let address = frame .address in
         let row′ = set row localsCount address in
@@ -68,13 +63,13 @@ module _ (rows : List (List ℕ)) (copies : List ℕ) (n : ℕ) where
         row-written localsCount (getD rows n []) (frame .locals) address row (wide-at rows copies laid n (omega arith)) long (omega arith) is in
         let made : _≡_ {A = Frame} (record { locals = take localsCount row′; r = frame .r; address = getD row′ localsCount 0 }) frame = rw (now .front, now .end) in
         rw (set-in rows n row localsCount address (omega (arith, laid .rows-long)))
-        (subst (λ (f : Frame). Hold (set rows n row′) (set copies n (frame .r)) (set (framesIn rows copies) n f) (levelsIn rows copies)) made
+        (subst (λ (f : Frame). Hold (set rows n row′) (set copies n (frame .r)) (set (framesIn rows copies) n f) (levelsIn rows copies) (noteIn rows)) made
         (frame-put rows copies laid n row′ (frame .r) h (now .wide) (subst (All CellFits) (take-all localsCount (frame .locals) (omega (arith, long)) ∙ sym (now .front)) fit)))
 
     pub level-written : (level : Level) (row : List ℕ) → n < levelsCount → length (level .cells) ≡ levelCells →
         row ≡ take levelCells (level .cells) ++ drop levelCells (getD rows (framesCount + n) []) → All CellFits (take levelCells (level .cells)) →
         Hold (set (set rows (framesCount + n) row) (framesCount + n) (set (getD (set rows (framesCount + n) row) (framesCount + n) []) localsCount (level .address)))
-        (set (set copies (framesCount + n) (level .s)) (framesCount + levelsCount + n) (level .p)) (framesIn rows copies) (set (levelsIn rows copies) n level)
+        (set (set copies (framesCount + n) (level .s)) (framesCount + levelsCount + n) (level .p)) (framesIn rows copies) (set (levelsIn rows copies) n level) (noteIn rows)
     level-written level row h long is fit =
         let at = framesCount + n in
         let address = level .address in
@@ -85,5 +80,5 @@ module _ (rows : List (List ℕ)) (copies : List ℕ) (n : ℕ) where
         rw (now .front, now .end) in
         rw (set-in rows at row localsCount address (omega (arith, laid .rows-long)))
         (subst
-        (λ (l : Level). Hold (set rows at row′) (set (set copies at (level .s)) (framesCount + levelsCount + n) (level .p)) (framesIn rows copies) (set (levelsIn rows copies) n l))
+        (λ (l : Level). Hold (set rows at row′) (set (set copies at (level .s)) (framesCount + levelsCount + n) (level .p)) (framesIn rows copies) (set (levelsIn rows copies) n l) (noteIn rows))
         made (level-put rows copies laid n row′ (level .s) (level .p) h (now .wide) (subst (All CellFits) (take-all levelCells (level .cells) (omega (arith, long)) ∙ sym (now .front)) fit)))

@@ -25,6 +25,7 @@ use Rattle.machine.specs.Run.{ended, passes, runFrom}
 use Rattle.machine.specs.Laws.Costs.{cost-bounded}
 use Rattle.machine.specs.Laws.Kept.{step-kept}
 use Rattle.machine.specs.Laws.Passed.{step-done}
+use Rattle.machine.specs.declared.LastThrow.{LastThrow}
 use Rattle.machine.specs.declared.Machine.{Machine}
 use Rattle.machine.specs.declared.Reach.{Reach}
 use Rattle.machine.specs.declared.Steps.{Steps}
@@ -44,7 +45,7 @@ pub record Going (reach : Reach) (inTurns : Bool) (mem₀ : List ℕ) (m₀ : Ma
   pub here : Here reach inTurns mem₀ m₀ budget mem m (budget - g .left .0) (g .cycles .0)
 
 -- what holds at the loop's head
-pub record Round (reach : Reach) (inTurns : Bool) (mem₀ : List ℕ) (m₀ : Machine) (budget : ℕ) (mem cells returns : List ℕ) (frames : List Frame) (levels : List Level) (g : Registers) : Type 0 where
+pub record Round (reach : Reach) (inTurns : Bool) (mem₀ : List ℕ) (m₀ : Machine) (budget : ℕ) (mem cells returns : List ℕ) (frames : List Frame) (levels : List Level) (thrown : LastThrow) (g : Registers) : Type 0 where
   pub p-within : g .p ≤ cellsDepth
   pub r-within : g .r ≤ returnsDepth
   pub s-within : g .s ≤ subroutinesDepth
@@ -56,9 +57,9 @@ pub record Round (reach : Reach) (inTurns : Bool) (mem₀ : List ℕ) (m₀ : Ma
   pub priced : g .cycles .0 ≤ 42 * (budget - g .left .0)
   pub long₀ : length mem₀ ≡ memoryLength
   pub long : length mem ≡ memoryLength
-  pub going : 0 < g .left .0 → Going reach inTurns mem₀ m₀ budget mem (machineIn cells returns frames levels g) g
+  pub going : 0 < g .left .0 → Going reach inTurns mem₀ m₀ budget mem (machineIn cells returns frames levels thrown g) g
   pub over : g .left .0 ≤ 0 →
-      ended (g .answer) mem (machineIn cells returns frames levels g) (budget - g .unspent .0) (g .cycles .0) ≡ runFrom reach inTurns budget mem₀ m₀ 0 0
+      ended (g .answer) mem (machineIn cells returns frames levels thrown g) (budget - g .unspent .0) (g .cycles .0) ≡ runFrom reach inTurns budget mem₀ m₀ 0 0
 
 -- the top exception level's copies
 top-within : (copy : ℕ → ℕ) (limit n : ℕ) → 0 < n → Within copy limit n → copy n ≤ limit
@@ -86,12 +87,12 @@ countsOf g = (g .left, (g .cycles, (g .answer, g .unspent)))
 
 module _ {reach : Reach} {inTurns : Bool} {mem₀ : List ℕ} {m₀ : Machine} {budget : ℕ} where
   -- where the definition's run stands, the loop goes on
-  round-here : {mem cells returns : List ℕ} {frames : List Frame} {levels : List Level} {g : Registers} →
+  round-here : {mem cells returns : List ℕ} {frames : List Frame} {levels : List Level} {thrown : LastThrow} {g : Registers} →
       g .answer ≡ 1 → g .unspent .0 ≡ 0 → g .left .0 ≤ budget →
-      Here reach inTurns mem₀ m₀ budget mem (machineIn cells returns frames levels g) (budget - g .left .0) (g .cycles .0) →
-      Round reach inTurns mem₀ m₀ budget mem cells returns frames levels g
-  round-here {mem} {cells} {returns} {frames} {levels} {g} unanswered none within here =
-      let m = machineIn cells returns frames levels g in
+      Here reach inTurns mem₀ m₀ budget mem (machineIn cells returns frames levels thrown g) (budget - g .left .0) (g .cycles .0) →
+      Round reach inTurns mem₀ m₀ budget mem cells returns frames levels thrown g
+  round-here {mem} {cells} {returns} {frames} {levels} {thrown} {g} unanswered none within here =
+      let m = machineIn cells returns frames levels thrown g in
       record {
         p-within = here .formed .p-within;
         r-within = here .formed .sound .r-within;
@@ -113,26 +114,26 @@ module _ {reach : Reach} {inTurns : Bool} {mem₀ : List ℕ} {m₀ : Machine} {
       }
 
   -- nothing is spent at first
-  pub begins : {mem cells returns : List ℕ} {frames : List Frame} {levels : List Level} {g : Registers} →
+  pub begins : {mem cells returns : List ℕ} {frames : List Frame} {levels : List Level} {thrown : LastThrow} {g : Registers} →
       g .answer ≡ 1 → g .unspent .0 ≡ 0 → g .left .0 ≡ budget → g .cycles .0 ≡ 0 →
-      Here reach inTurns mem₀ m₀ budget mem (machineIn cells returns frames levels g) 0 0 → Round reach inTurns mem₀ m₀ budget mem cells returns frames levels g
-  begins {mem} {cells} {returns} {frames} {levels} {g} unanswered none all free here =
-      let m = machineIn cells returns frames levels g in
+      Here reach inTurns mem₀ m₀ budget mem (machineIn cells returns frames levels thrown g) 0 0 → Round reach inTurns mem₀ m₀ budget mem cells returns frames levels thrown g
+  begins {mem} {cells} {returns} {frames} {levels} {thrown} {g} unanswered none all free here =
+      let m = machineIn cells returns frames levels thrown g in
       let start : 0 ≡ budget - g .left .0 = omega arith in
       round-here unanswered none (omega arith)
       (subst (λ (n : ℕ). Here reach inTurns mem₀ m₀ budget mem m n (g .cycles .0)) start (subst (λ (c : ℕ). Here reach inTurns mem₀ m₀ budget mem m 0 c) (sym free) here))
 
-  module _ {mem cells returns : List ℕ} {frames : List Frame} {levels : List Level} {g : Registers}
-      (round : Round reach inTurns mem₀ m₀ budget mem cells returns frames levels g) (less : 0 < g .left .0)
+  module _ {mem cells returns : List ℕ} {frames : List Frame} {levels : List Level} {thrown : LastThrow} {g : Registers}
+      (round : Round reach inTurns mem₀ m₀ budget mem cells returns frames levels thrown g) (less : 0 < g .left .0)
     where
       abbrev here : Machine
-      here = machineIn cells returns frames levels g
+      here = machineIn cells returns frames levels thrown g
 
       -- the step is refused: the run is over, with the refusal's number, and the machine stays
       over-with : {number : ℕ} → stepOf reach mem here ≡ refused number → {g′ : Registers} → g′ ≡ haltedAt g number →
-          Round reach inTurns mem₀ m₀ budget mem cells returns frames levels g′
+          Round reach inTurns mem₀ m₀ budget mem cells returns frames levels thrown g′
       over-with {number} e {g′} eg =
-          subst⁻¹ (Round reach inTurns mem₀ m₀ budget mem cells returns frames levels) eg
+          subst⁻¹ (Round reach inTurns mem₀ m₀ budget mem cells returns frames levels thrown) eg
           (record {
             p-within = round .p-within;
             r-within = round .r-within;
@@ -153,29 +154,29 @@ module _ {reach : Reach} {inTurns : Bool} {mem₀ : List ℕ} {m₀ : Machine} {
 
       -- a byte of the instruction is in another's part
       pub foreign-ends : {b : Bool} → b ≡ isForeign (instructionAt reach mem (g .counter) .bar) → b ≡ true → {g′ : Registers} → g′ ≡ haltedAt g 17 →
-          Round reach inTurns mem₀ m₀ budget mem cells returns frames levels g′
+          Round reach inTurns mem₀ m₀ budget mem cells returns frames levels thrown g′
       foreign-ends eb e eg = over-with (foreign-refused reach mem here (sym eb ∙ e)) eg
 
       -- nothing is fetched
       pub fetch-ends : {said : Reach → Answer _} → Fetches mem (g .counter) said → {b : Bool} → b ≡ isForeign (instructionAt reach mem (g .counter) .bar) → b ≡ false →
-          {number : ℕ} → said reach ≡ refuses number → {g′ : Registers} → g′ ≡ haltedAt g number → Round reach inTurns mem₀ m₀ budget mem cells returns frames levels g′
+          {number : ℕ} → said reach ≡ refuses number → {g′ : Registers} → g′ ≡ haltedAt g number → Round reach inTurns mem₀ m₀ budget mem cells returns frames levels thrown g′
       fetch-ends {said} ef eb own {number} e eg = over-with (cut-off reach mem here number (sym (ef reach (sym eb ∙ own)) ∙ e)) eg
 
 -- an instruction is fetched, with budget left
-pub record Found (reach : Reach) (inTurns : Bool) (mem₀ : List ℕ) (m₀ : Machine) (budget : ℕ) (mem cells returns : List ℕ) (frames : List Frame) (levels : List Level) (g : Registers)
+pub record Found (reach : Reach) (inTurns : Bool) (mem₀ : List ℕ) (m₀ : Machine) (budget : ℕ) (mem cells returns : List ℕ) (frames : List Frame) (levels : List Level) (thrown : LastThrow) (g : Registers)
     (code operand next : ℕ) : Type 0 where
-  pub round : Round reach inTurns mem₀ m₀ budget mem cells returns frames levels g
+  pub round : Round reach inTurns mem₀ m₀ budget mem cells returns frames levels thrown g
   pub less : 0 < g .left .0
   pub fetched : fetchedOf (instructionAt reach mem (g .counter)) ≡ gives (inReach reach code operand next)
 
-module _ {reach : Reach} {inTurns : Bool} {mem₀ : List ℕ} {m₀ : Machine} {budget : ℕ} {mem cells returns : List ℕ} {frames : List Frame} {levels : List Level} {g : Registers}
-    {code operand next : ℕ} (found : Found reach inTurns mem₀ m₀ budget mem cells returns frames levels g code operand next)
+module _ {reach : Reach} {inTurns : Bool} {mem₀ : List ℕ} {m₀ : Machine} {budget : ℕ} {mem cells returns : List ℕ} {frames : List Frame} {levels : List Level} {thrown : LastThrow} {g : Registers}
+    {code operand next : ℕ} (found : Found reach inTurns mem₀ m₀ budget mem cells returns frames levels thrown g code operand next)
   where
-    is-step : stepOf reach mem (machineIn cells returns frames levels g) ≡ carried (inReach reach code operand next) mem (machineIn cells returns frames levels g)
-    is-step = step-is reach mem (machineIn cells returns frames levels g) code operand next (found .fetched)
+    is-step : stepOf reach mem (machineIn cells returns frames levels thrown g) ≡ carried (inReach reach code operand next) mem (machineIn cells returns frames levels thrown g)
+    is-step = step-is reach mem (machineIn cells returns frames levels thrown g) code operand next (found .fetched)
 
     -- PAUSE alone passes a turn
-    no-pause : (code ≡ codePAUSE → ⊥) → passes inTurns mem (machineIn cells returns frames levels g) ≡ false
+    no-pause : (code ≡ codePAUSE → ⊥) → passes inTurns mem (machineIn cells returns frames levels thrown g) ≡ false
     no-pause other =
         ap (both inTurns) (ne-eqb (byteAt mem (g .counter)) codePAUSE (λ h. other (sym (code-there reach mem (g .counter) code operand next (found .fetched)) ∙ h))) ∙
         neither inTurns
@@ -184,7 +185,7 @@ module _ {reach : Reach} {inTurns : Bool} {mem₀ : List ℕ} {m₀ : Machine} {
         neither true = refl
         neither false = refl
 
-    a-pause : code ≡ codePAUSE → passes inTurns mem (machineIn cells returns frames levels g) ≡ inTurns
+    a-pause : code ≡ codePAUSE → passes inTurns mem (machineIn cells returns frames levels thrown g) ≡ inTurns
     a-pause is =
         ap (both inTurns) (eq-eqb (byteAt mem (g .counter)) codePAUSE (code-there reach mem (g .counter) code operand next (found .fetched) ∙ is)) ∙ itself inTurns
       where
@@ -193,15 +194,15 @@ module _ {reach : Reach} {inTurns : Bool} {mem₀ : List ℕ} {m₀ : Machine} {
         itself false = refl
 
     -- a step that is carried out and counted
-    module _ {mem′ cells′ returns′ : List ℕ} {frames′ : List Frame} {levels′ : List Level} {moved : Registers} {cost : ℕ}
-        (steps : carried (inReach reach code operand next) mem (machineIn cells returns frames levels g) ≡ done mem′ (machineIn cells′ returns′ frames′ levels′ moved) cost)
+    module _ {mem′ cells′ returns′ : List ℕ} {frames′ : List Frame} {levels′ : List Level} {thrown′ : LastThrow} {moved : Registers} {cost : ℕ}
+        (steps : carried (inReach reach code operand next) mem (machineIn cells returns frames levels thrown g) ≡ done mem′ (machineIn cells′ returns′ frames′ levels′ thrown′ moved) cost)
         (same : countsOf moved ≡ countsOf g) {price : ℕ} (ep : price ≡ cost)
       where
         abbrev old : Machine
-        old = machineIn cells returns frames levels g
+        old = machineIn cells returns frames levels thrown g
 
         abbrev new : Machine
-        new = machineIn cells′ returns′ frames′ levels′ moved
+        new = machineIn cells′ returns′ frames′ levels′ thrown′ moved
 
         left-same : moved .left .0 ≡ g .left .0
         left-same = ap (λ x. x .0 .0) same
@@ -210,7 +211,7 @@ module _ {reach : Reach} {inTurns : Bool} {mem₀ : List ℕ} {m₀ : Machine} {
         cycles-same = ap (λ x. x .1 .0 .0) same
 
         -- where it passes no turn, the loop goes on
-        on : passes inTurns mem old ≡ false → Round reach inTurns mem₀ m₀ budget mem′ cells′ returns′ frames′ levels′ (countedTo moved price)
+        on : passes inTurns mem old ≡ false → Round reach inTurns mem₀ m₀ budget mem′ cells′ returns′ frames′ levels′ thrown′ (countedTo moved price)
         on not =
             let now = found .round .going (found .less) in
             let within = found .round .left-within in
@@ -224,7 +225,7 @@ module _ {reach : Reach} {inTurns : Bool} {mem₀ : List ℕ} {m₀ : Machine} {
             (now .here) (omega arith) (is-step ∙ steps) not (omega arith) (omega arith))
 
         -- where it does, the run is over behind it
-        over-behind : passes inTurns mem old ≡ true → Round reach inTurns mem₀ m₀ budget mem′ cells′ returns′ frames′ levels′ (haltedAt (countedTo moved price) 1)
+        over-behind : passes inTurns mem old ≡ true → Round reach inTurns mem₀ m₀ budget mem′ cells′ returns′ frames′ levels′ thrown′ (haltedAt (countedTo moved price) 1)
         over-behind passed =
             let here = found .round .going (found .less) .here in
             let within = found .round .left-within in
@@ -255,28 +256,28 @@ module _ {reach : Reach} {inTurns : Bool} {mem₀ : List ℕ} {m₀ : Machine} {
 
         -- a PAUSE: the loop goes on, or the turn is passed
         pub paused : code ≡ codePAUSE → {counted : Registers} → counted ≡ countedTo moved price → {g′ : Registers} → g′ ≡ pausedAt counted inTurns →
-            Round reach inTurns mem₀ m₀ budget mem′ cells′ returns′ frames′ levels′ g′
+            Round reach inTurns mem₀ m₀ budget mem′ cells′ returns′ frames′ levels′ thrown′ g′
         paused is ec eg =
-            subst⁻¹ (Round reach inTurns mem₀ m₀ budget mem′ cells′ returns′ frames′ levels′) (eg ∙ ap (λ (x : Registers). pausedAt x inTurns) ec) (go inTurns refl)
+            subst⁻¹ (Round reach inTurns mem₀ m₀ budget mem′ cells′ returns′ frames′ levels′ thrown′) (eg ∙ ap (λ (x : Registers). pausedAt x inTurns) ec) (go inTurns refl)
           where
-            go : (b : Bool) → inTurns ≡ b → Round reach inTurns mem₀ m₀ budget mem′ cells′ returns′ frames′ levels′ (pausedAt (countedTo moved price) b)
+            go : (b : Bool) → inTurns ≡ b → Round reach inTurns mem₀ m₀ budget mem′ cells′ returns′ frames′ levels′ thrown′ (pausedAt (countedTo moved price) b)
             go true e = over-behind (a-pause is ∙ e)
             go false e = on (a-pause is ∙ e)
 
     module _ {A : Type 0} {said : Answer A} {after : A → Stepped}
-        (acts : Acts (inReach reach code operand next) mem (machineIn cells returns frames levels g) said after)
+        (acts : Acts (inReach reach code operand next) mem (machineIn cells returns frames levels thrown g) said after)
       where
         -- a check refuses: the run is over
         pub ends : {number : ℕ} → said ≡ refuses number → {heard : Answer A} → heard ≡ said → {g′ : Registers} → g′ ≡ haltedBy heard g →
-            Round reach inTurns mem₀ m₀ budget mem cells returns frames levels g′
+            Round reach inTurns mem₀ m₀ budget mem cells returns frames levels thrown g′
         ends {number} e {heard} eh eg =
             over-with (found .round) (found .less) (is-step ∙ by-refusal acts e) (eg ∙ ap (λ (a : Answer A). haltedBy a g) (eh ∙ e))
 
         -- the instruction is carried out and counted: the loop goes on
         pub goes : {values : A} → said ≡ gives values →
-            {mem′ cells′ returns′ : List ℕ} {frames′ : List Frame} {levels′ : List Level} {moved : Registers} {cost : ℕ} →
-            after values ≡ done mem′ (machineIn cells′ returns′ frames′ levels′ moved) cost → countsOf moved ≡ countsOf g →
+            {mem′ cells′ returns′ : List ℕ} {frames′ : List Frame} {levels′ : List Level} {thrown′ : LastThrow} {moved : Registers} {cost : ℕ} →
+            after values ≡ done mem′ (machineIn cells′ returns′ frames′ levels′ thrown′ moved) cost → countsOf moved ≡ countsOf g →
             {price : ℕ} → price ≡ cost → {g′ : Registers} → g′ ≡ countedTo moved price →
-            Round reach inTurns mem₀ m₀ budget mem′ cells′ returns′ frames′ levels′ g′
-        goes e {mem′} {cells′} {returns′} {frames′} {levels′} ea same ep eg =
-            subst⁻¹ (Round reach inTurns mem₀ m₀ budget mem′ cells′ returns′ frames′ levels′) eg (on (by-gift acts e ∙ ea) same ep (no-pause (acts .on)))
+            Round reach inTurns mem₀ m₀ budget mem′ cells′ returns′ frames′ levels′ thrown′ g′
+        goes e {mem′} {cells′} {returns′} {frames′} {levels′} {thrown′} ea same ep eg =
+            subst⁻¹ (Round reach inTurns mem₀ m₀ budget mem′ cells′ returns′ frames′ levels′ thrown′) eg (on (by-gift acts e ∙ ea) same ep (no-pause (acts .on)))

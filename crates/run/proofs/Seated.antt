@@ -21,7 +21,7 @@ use Rattle.run.specs.Machines.{ranOf}
 use Rattle.run.specs.Promises.{Bounded}
 use Rattle.run.specs.Registers.{machineIn}
 use Rattle.run.specs.Rounds.{Starts, Ends}
-use Rattle.run.specs.Levels.{framesIn, levelsIn, pointersIn, inRows, taskIn, machinesIn, Seats}
+use Rattle.run.specs.Levels.{framesIn, levelsIn, noteIn, pointersIn, inRows, taskIn, machinesIn, Seats}
 use Rattle.run.specs.declared.Clock.{Clock}
 use Rattle.run.specs.declared.Pointers.{Pointers}
 use Rattle.run.specs.declared.Registers.{Registers}
@@ -100,7 +100,7 @@ module _ {quantum budget : ℕ} {start : Between} {mem kept : List ℕ} {cells r
             (ends : Ends reach true mem (taskIn cells returns rows copies saved t) turn mem′ cells′ returns′ rows′ copies′ g)
           where
             abbrev ran : Ran
-            ran = ranOf (g .answer) (record { 0 = turn - g .unspent .0 }) (g .cycles) (machineIn cells′ returns′ (framesIn rows′ copies′) (levelsIn rows′ copies′) g)
+            ran = ranOf (g .answer) (record { 0 = turn - g .unspent .0 }) (g .cycles) (machineIn cells′ returns′ (framesIn rows′ copies′) (levelsIn rows′ copies′) (noteIn rows′) g)
 
             same-run : afterOf mem′ ran ≡ runFrom reach true turn mem (getD machines t noMachine) 0 0
             same-run = ends .same ∙ ap (λ (m : Machine). runFrom reach true turn mem m 0 0) (sym there)

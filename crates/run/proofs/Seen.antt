@@ -82,7 +82,7 @@ module _ (rows : List (List ℕ)) (copies : List ℕ) (s e : ℕ) (hs : s < fram
       let long : length (set locals k value) ≡ localsCount = length-set locals k value ∙ locals-long in
       let held = local-stored rows copies laid s k value hs h fits in
       rw (here, take-at (set locals k value) cells localsCount long, drop-at (set locals k value) cells localsCount long)
-      (record { laid = held .laid; frames-are = held .frames-are; levels-are = held .levels-are ∙ sym same-level })
+      (record { laid = held .laid; frames-are = held .frames-are; levels-are = held .levels-are ∙ sym same-level; note-is = held .note-is })
 
   pub cell-kept : (k value : ℕ) → k < levelCells → CellFits value →
       Keep rows (set rows (framesCount + e) (set (getD rows (framesCount + e) []) k value)) copies s e
@@ -93,7 +93,7 @@ module _ (rows : List (List ℕ)) (copies : List ℕ) (s e : ℕ) (hs : s < fram
       ap (λ (n : ℕ). set (locals ++ cells) (n + k) value) (sym locals-long) ∙ set-after locals cells k value in
       let held = cell-stored rows copies laid e k value he h fits in
       rw (here, take-at locals (set cells k value) localsCount locals-long, drop-at locals (set cells k value) localsCount locals-long)
-      (record { laid = held .laid; frames-are = held .frames-are ∙ sym same-frame; levels-are = held .levels-are })
+      (record { laid = held .laid; frames-are = held .frames-are ∙ sym same-frame; levels-are = held .levels-are; note-is = held .note-is })
 
 -- a byte lies in one cell
 module _ (rows : List (List ℕ)) (copies : List ℕ) (s e : ℕ) (hs : s < framesCount) (he : e < levelsCount) (laid : Laid rows copies)
@@ -166,6 +166,7 @@ module _ (rows rows₁ : List (List ℕ)) (copies : List ℕ) (s e : ℕ) (hs : 
             more .levels-are ∙ ap (λ (l : Level). set (levelsIn rows₁ copies) e (withCells (drop localsCount twice) l)) level-after ∙
             ap (λ (l : List Level). set l e (withCells (drop localsCount twice) (getD (levelsIn rows copies) e noLevel))) (kept .levels-are) ∙
             set-set (levelsIn rows copies) e (withCells (drop localsCount once) (getD (levelsIn rows copies) e noLevel)) (withCells (drop localsCount twice) (getD (levelsIn rows copies) e noLevel));
+        note-is = more .note-is ∙ kept .note-is;
       }
 
 -- an access that lies in cells n and n + 1

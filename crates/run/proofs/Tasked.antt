@@ -98,7 +98,7 @@ module _ (machines : List Machine) (cells returns : List (List ℕ)) (rows : Lis
     apart-all over = filled-all tasksCount machines (machinesIn cells returns rows copies saved) t (now .filled) over
 
     pub apart-next : t < tasksCount → (row : List (List ℕ)) (copy : List ℕ) (at : Pointers) →
-        Hold row copy (getD machines t noMachine .links .frames) (getD machines t noMachine .links .levels) → at ≡ pointersOf (getD machines t noMachine) →
+        Hold row copy (getD machines t noMachine .links .frames) (getD machines t noMachine .links .levels) (getD machines t noMachine .thrown) → at ≡ pointersOf (getD machines t noMachine) →
         Apart machines (set cells t (getD machines t noMachine .cells)) (set returns t (getD machines t noMachine .links .returns)) (set rows t row) (set copies t copy)
         (set saved t at) (t + 1)
     apart-next h row copy at held is =

@@ -11,6 +11,7 @@ use Rattle.links.specs.Linked.{noFrame, noLevel}
 use Rattle.links.specs.declared.Frame.{Frame}
 use Rattle.links.specs.declared.Level.{Level}
 use Rattle.machine.specs.Limits.{tasksCount}
+use Rattle.machine.specs.declared.LastThrow.{LastThrow}
 use Rattle.machine.specs.declared.Machine.{Machine}
 use Rattle.run.specs.Machines.{linksOf}
 use Rattle.run.specs.declared.Pointers.{Pointers}
@@ -46,19 +47,30 @@ framesIn rows copies = tabulated framesCount (frameOf rows copies)
 unfoldable pub levelsIn : List (List ℕ) → List ℕ → List Level
 levelsIn rows copies = tabulated levelsCount (levelOf rows copies)
 
+-- the last THROW stands in a row behind those of the levels: its address, then its code
+abbrev pub noteRow : ℕ
+noteRow = framesCount + levelsCount
+
+abbrev pub rowsCount : ℕ
+rowsCount = noteRow + 1
+
+unfoldable pub noteIn : List (List ℕ) → LastThrow
+noteIn rows = record { address = getD (getD rows noteRow []) 0 0; code = getD (getD rows noteRow []) 1 0 }
+
 -- the lists are as long as the arrays that they stand for, and the cells of every level are numbers of 32 bits
 pub record Laid (rows : List (List ℕ)) (copies : List ℕ) : Type 0 where
-  pub rows-long : length rows ≡ framesCount + levelsCount
+  pub rows-long : length rows ≡ rowsCount
   pub rows-wide : All (λ (row : List ℕ). length row ≡ suc localsCount) rows
   pub copies-long : length copies ≡ copiesRoom
   pub locals-fit : (s : ℕ) → s < framesCount → All CellFits (take localsCount (getD rows s []))
   pub cells-fit : (e : ℕ) → e < levelsCount → All CellFits (take levelCells (getD rows (framesCount + e) []))
 
--- rows and copies that hold these levels
-pub record Hold (rows : List (List ℕ)) (copies : List ℕ) (frames : List Frame) (levels : List Level) : Type 0 where
+-- rows and copies that hold these levels and this THROW
+pub record Hold (rows : List (List ℕ)) (copies : List ℕ) (frames : List Frame) (levels : List Level) (thrown : LastThrow) : Type 0 where
   pub laid : Laid rows copies
   pub frames-are : framesIn rows copies ≡ frames
   pub levels-are : levelsIn rows copies ≡ levels
+  pub note-is : noteIn rows ≡ thrown
 
 -- how many cells are in view
 abbrev pub viewCells : ℕ
@@ -68,17 +80,17 @@ viewCells = localsCount + levelCells
 abbrev pub seen : List Frame → List Level → ℕ → ℕ → List ℕ
 seen frames levels s e = getD frames s noFrame .locals ++ getD levels e noLevel .cells
 
-abbrev pub HoldSeen : List (List ℕ) → List ℕ → List Frame → List Level → ℕ → ℕ → List ℕ → Type 0
-HoldSeen rows copies frames levels s e cells =
+abbrev pub HoldSeen : List (List ℕ) → List ℕ → List Frame → List Level → LastThrow → ℕ → ℕ → List ℕ → Type 0
+HoldSeen rows copies frames levels thrown s e cells =
     Hold rows copies (set frames s (withLocals (take localsCount cells) (getD frames s noFrame)))
-    (set levels e (withCells (drop localsCount cells) (getD levels e noLevel)))
+    (set levels e (withCells (drop localsCount cells) (getD levels e noLevel))) thrown
 
 -- the same of rows, and of rows that come after them
 abbrev pub seenIn : List (List ℕ) → List ℕ → ℕ → ℕ → List ℕ
 seenIn rows copies s e = seen (framesIn rows copies) (levelsIn rows copies) s e
 
 abbrev pub Keep : List (List ℕ) → List (List ℕ) → List ℕ → ℕ → ℕ → List ℕ → Type 0
-Keep rows rows′ copies s e cells = HoldSeen rows′ copies (framesIn rows copies) (levelsIn rows copies) s e cells
+Keep rows rows′ copies s e cells = HoldSeen rows′ copies (framesIn rows copies) (levelsIn rows copies) (noteIn rows) s e cells
 
 -- what a machine has beside its arrays
 abbrev pub pointersOf : Machine → Pointers
@@ -96,6 +108,7 @@ inRows cells returns rows copies at =
       links = linksOf returns (at .r) (framesIn rows copies) (at .s) (levelsIn rows copies) (at .e);
       counter = at .counter;
       flag = at .flag;
+      thrown = noteIn rows;
     }
 
 -- what a read past an array's end gives: every number zero

@@ -6,20 +6,22 @@ use Rattle.plain.specs.Answer.{Answer, refuses, gives}
 use Rattle.plain.specs.Choice.{pick}
 use Rattle.links.specs.declared.Frame.{Frame}
 use Rattle.links.specs.declared.Level.{Level}
+use Rattle.machine.specs.declared.LastThrow.{LastThrow}
 use Rattle.machine.specs.declared.Machine.{Machine}
 use Rattle.machine.specs.declared.Steps.{Steps}
 use Rattle.machine.specs.declared.Cycles.{Cycles}
 use Rattle.run.specs.Machines.{linksOf}
 use Rattle.run.specs.declared.Registers.{Registers}
 
-abbrev pub machineIn : List ℕ → List ℕ → List Frame → List Level → Registers → Machine
-machineIn cells returns frames levels g =
+abbrev pub machineIn : List ℕ → List ℕ → List Frame → List Level → LastThrow → Registers → Machine
+machineIn cells returns frames levels thrown g =
     record {
       cells = cells;
       p = g .p;
       links = linksOf returns (g .r) frames (g .s) levels (g .e);
       counter = g .counter;
       flag = g .flag;
+      thrown = thrown;
     }
 
 -- P, R, S, E, the counter and the flag anew

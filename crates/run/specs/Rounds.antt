@@ -10,7 +10,7 @@ use Rattle.machine.specs.declared.Machine.{Machine}
 use Rattle.machine.specs.declared.Reach.{Reach}
 use Rattle.run.specs.Promises.{Bounded}
 use Rattle.run.specs.Registers.{machineIn}
-use Rattle.run.specs.Levels.{framesIn, levelsIn, Laid}
+use Rattle.run.specs.Levels.{framesIn, levelsIn, noteIn, Laid}
 use Rattle.run.specs.declared.Registers.{Registers}
 
 -- a machine that a run takes, in arrays of their lengths, and the prices
@@ -27,5 +27,5 @@ pub record Ends (reach : Reach) (inTurns : Bool) (mem : List ℕ) (m : Machine) 
   pub unspent-within : g .unspent .0 ≤ left
   pub laid : Laid rows copies
   pub same :
-      ended (g .answer) mem′ (machineIn cells returns (framesIn rows copies) (levelsIn rows copies) g) (left - g .unspent .0) (g .cycles .0) ≡
+      ended (g .answer) mem′ (machineIn cells returns (framesIn rows copies) (levelsIn rows copies) (noteIn rows) g) (left - g .unspent .0) (g .cycles .0) ≡
       runFrom reach inTurns left mem m 0 0

@@ -19,7 +19,7 @@ ghost use Rattle.machine.specs.Run.{acceptable, runFrom, afterOf};
 ghost use Rattle.machine.specs.Run as run;
 ghost use Rattle.run.specs.Machines.{ranOf};
 ghost use Rattle.run.specs.Registers.{machineIn};
-ghost use Rattle.run.specs.Levels.{framesIn, levelsIn, Laid};
+ghost use Rattle.run.specs.Levels.{framesIn, levelsIn, noteIn, Laid};
 ghost use Rattle.machine.specs.State.{freshWith};
 
 // A machine that is alone may touch all of memory.
@@ -60,7 +60,7 @@ fn finished(
     budget: u32,
 ) -> Ran
     requires { ⌜ (regs .unspent .0 ≤ budget) × Laid (now rows) (now copies) ⌝ }
-    ensures { λ ran. ⌜ ((mem : List ℕ) → afterOf mem ran ≡ run.ended (regs .answer) mem (machineIn (now (cells .entry)) (now (returns .entry)) (framesIn (now (rows .entry)) (now (copies .entry))) (levelsIn (now (rows .entry)) (now (copies .entry))) regs) (budget - regs .unspent .0) (regs .cycles .0)) ⌝ }
+    ensures { λ ran. ⌜ ((mem : List ℕ) → afterOf mem ran ≡ run.ended (regs .answer) mem (machineIn (now (cells .entry)) (now (returns .entry)) (framesIn (now (rows .entry)) (now (copies .entry))) (levelsIn (now (rows .entry)) (now (copies .entry))) (noteIn (now (rows .entry))) regs) (budget - regs .unspent .0) (regs .cycles .0)) ⌝ }
 {
     let machine = parts::whole(cells, returns, rows, copies, parts::left_in(regs));
     let cycles = regs.cycles;
@@ -77,7 +77,8 @@ pub(crate) fn any(mem: &mut [u8], machine: Machine, budget: u32) -> Ran
     let mut returns = links.returns;
     let mut rows = [[0u32; linked::ROW]; linked::ROWS];
     let mut copies = [0usize; linked::COPIES];
-    parts::apart(links, &mut rows, &mut copies);
+    let thrown = machine.thrown;
+    parts::apart(links, thrown, &mut rows, &mut copies);
     let start = parts::pointers(machine);
     let regs = round::rounds(
         mem,

@@ -1,9 +1,10 @@
-// The subroutine and the exception levels as the loop has them: a row of numbers for each level, its cells and its address; and the
-// copies of R, S and P beside them. No array of structs can be lent (docs/DECISIONS.md), and each further array costs a turn four
-// to six instructions.
+// The subroutine and the exception levels as the loop has them: a row of numbers for each level, its cells and its address; the last
+// THROW in a row behind them; and the copies of R, S and P beside. No array of structs can be lent (docs/DECISIONS.md), and each
+// further array costs a turn four to six instructions.
 use links::Frame;
 use links::Level;
 use links::Links;
+use machine::LastThrow;
 ghost use mathlib.Core.List.{List};
 ghost use mathlib.Core.Path.{_≡_};
 ghost use Prim.Native.Nat.{ℕ, _+_, _*_, _<_};
@@ -13,10 +14,12 @@ ghost use Rattle.links.specs.Actions.{calledFrame};
 ghost use Rattle.links.specs.Depths.{framesCount, levelsCount, localsCount, levelCells, subroutinesDepth, exceptionsDepth};
 ghost use Rattle.links.specs.Linked.{noFrame, noLevel, copyOfR, copyOfS, copyOfP};
 ghost use Rattle.machine.specs.View.{bytesOfCells, overwritten};
-ghost use Rattle.run.specs.Levels.{framesIn, levelsIn, seenIn, Laid, Hold, Keep};
+ghost use Rattle.run.specs.Levels.{framesIn, levelsIn, noteIn, seenIn, Laid, Hold, Keep};
 
-// The rows of the subroutine levels, then those of the exception levels.
-pub(crate) const ROWS: usize = Links::FRAMES + Links::LEVELS;
+// The row of the last THROW stands behind those of the subroutine levels and of the exception levels.
+const NOTE: usize = Links::FRAMES + Links::LEVELS;
+
+pub(crate) const ROWS: usize = NOTE + 1;
 
 // 16 locals or 8 cells, and the address at the row's end.
 pub(crate) const ROW: usize = Frame::LOCALS + 1;
@@ -59,6 +62,23 @@ pub(crate) fn throw_address(rows: &[[u32; ROW]; ROWS], e: usize) -> u32
     rows[Links::FRAMES + e][Frame::LOCALS]
 }
 
+pub(crate) fn noted(rows: &[[u32; ROW]; ROWS]) -> LastThrow
+    ensures { λ t. ⌜ t ≡ noteIn (now (rows .entry)) ⌝ }
+{
+    LastThrow {
+        address: rows[NOTE][0],
+        code: rows[NOTE][1],
+    }
+}
+
+// In the registers it would cost a step one or two instructions, and a turn fifteen (docs/SPEED.md).
+pub(crate) fn note(rows: &mut [[u32; ROW]; ROWS], address: u32, code: u32)
+    ensures { λ _. ⌜ ((copies : List ℕ) → Laid (now (rows .entry)) copies → Hold (now (rows .exit)) copies (framesIn (now (rows .entry)) copies) (levelsIn (now (rows .entry)) copies) (record { address = address; code = code })) ⌝ }
+{
+    rows[NOTE][0] = address;
+    rows[NOTE][1] = code;
+}
+
 // A cell is four bytes in view.
 pub(crate) fn local(rows: &[[u32; ROW]; ROWS], s: usize, k: usize) -> u32
     requires { ⌜ (s < framesCount) × (k < localsCount) ⌝ }
@@ -97,7 +117,7 @@ pub(crate) fn called(
     address: u32,
 )
     requires { ⌜ s < subroutinesDepth ⌝ }
-    ensures { λ _. ⌜ (Laid (now (rows .entry)) (now (copies .entry)) → Hold (now (rows .exit)) (now (copies .exit)) (set (framesIn (now (rows .entry)) (now (copies .entry))) (s + 1) (calledFrame r address)) (levelsIn (now (rows .entry)) (now (copies .entry)))) ⌝ }
+    ensures { λ _. ⌜ (Laid (now (rows .entry)) (now (copies .entry)) → Hold (now (rows .exit)) (now (copies .exit)) (set (framesIn (now (rows .entry)) (now (copies .entry))) (s + 1) (calledFrame r address)) (levelsIn (now (rows .entry)) (now (copies .entry))) (noteIn (now (rows .entry)))) ⌝ }
 {
     let mut row = [0u32; ROW];
     row[Frame::LOCALS] = address;
@@ -115,7 +135,7 @@ pub(crate) fn caught(
     address: u32,
 )
     requires { ⌜ e < exceptionsDepth ⌝ }
-    ensures { λ _. ⌜ (Laid (now (rows .entry)) (now (copies .entry)) → Hold (now (rows .exit)) (now (copies .exit)) (framesIn (now (rows .entry)) (now (copies .entry))) (set (levelsIn (now (rows .entry)) (now (copies .entry))) (e + 1) (record { cells = getD (levelsIn (now (rows .entry)) (now (copies .entry))) e noLevel .cells; s = s; p = p; address = address }))) ⌝ }
+    ensures { λ _. ⌜ (Laid (now (rows .entry)) (now (copies .entry)) → Hold (now (rows .exit)) (now (copies .exit)) (framesIn (now (rows .entry)) (now (copies .entry))) (set (levelsIn (now (rows .entry)) (now (copies .entry))) (e + 1) (record { cells = getD (levelsIn (now (rows .entry)) (now (copies .entry))) e noLevel .cells; s = s; p = p; address = address })) (noteIn (now (rows .entry)))) ⌝ }
 {
     let mut row = rows[Links::FRAMES + e];
     row[Frame::LOCALS] = address;

@@ -1,10 +1,11 @@
-// A machine's levels taken apart into the rows that the loop is lent, and a machine put together again.
+// A machine's levels and its last THROW taken apart into the rows that the loop is lent, and a machine put together again.
 use crate::Pointers;
 use crate::Registers;
 use crate::linked;
 use links::Frame;
 use links::Level;
 use links::Links;
+use machine::LastThrow;
 use machine::Machine;
 ghost use mathlib.Core.List.{_++_};
 ghost use mathlib.Core.Path.{_≡_};
@@ -14,7 +15,7 @@ ghost use Rattle.plain.specs.All.{All};
 ghost use Rattle.links.specs.Depths.{framesCount, levelsCount};
 ghost use Rattle.links.specs.Fits.{CellFits};
 ghost use Rattle.links.specs.Linked.{noFrame, noLevel};
-ghost use Rattle.run.specs.Levels.{framesIn, levelsIn, inRows, pointersOf, pointersIn, Laid, Hold};
+ghost use Rattle.run.specs.Levels.{framesIn, levelsIn, noteIn, inRows, pointersOf, pointersIn, Laid, Hold};
 
 // So many numbers from the front of one list to the front of another.
 fn copy_front(from: &[u32], to: &mut [u32], count: usize)
@@ -35,7 +36,7 @@ fn put_frame(
     frame: Frame,
 )
     requires { ⌜ (n < framesCount) × Laid (now rows) (now copies) ⌝ }
-    ensures { λ _. ⌜ Hold (now (rows .exit)) (now (copies .exit)) (set (framesIn (now (rows .entry)) (now (copies .entry))) n frame) (levelsIn (now (rows .entry)) (now (copies .entry))) ⌝ }
+    ensures { λ _. ⌜ Hold (now (rows .exit)) (now (copies .exit)) (set (framesIn (now (rows .entry)) (now (copies .entry))) n frame) (levelsIn (now (rows .entry)) (now (copies .entry))) (noteIn (now (rows .entry))) ⌝ }
 {
     let locals = frame.locals;
     copy_front(&locals, &mut rows[n], Frame::LOCALS);
@@ -50,7 +51,7 @@ fn put_level(
     level: Level,
 )
     requires { ⌜ (n < levelsCount) × Laid (now rows) (now copies) ⌝ }
-    ensures { λ _. ⌜ Hold (now (rows .exit)) (now (copies .exit)) (framesIn (now (rows .entry)) (now (copies .entry))) (set (levelsIn (now (rows .entry)) (now (copies .entry))) n level) ⌝ }
+    ensures { λ _. ⌜ Hold (now (rows .exit)) (now (copies .exit)) (framesIn (now (rows .entry)) (now (copies .entry))) (set (levelsIn (now (rows .entry)) (now (copies .entry))) n level) (noteIn (now (rows .entry))) ⌝ }
 {
     let cells = level.cells;
     copy_front(&cells, &mut rows[Links::FRAMES + n], Level::CELLS);
@@ -100,7 +101,7 @@ fn frames_apart(
     copies: &mut [usize; linked::COPIES],
 )
     requires { ⌜ Laid (now rows) (now copies) ⌝ }
-    ensures { λ _. ⌜ Hold (now (rows .exit)) (now (copies .exit)) frames (levelsIn (now (rows .entry)) (now (copies .entry))) ⌝ }
+    ensures { λ _. ⌜ Hold (now (rows .exit)) (now (copies .exit)) frames (levelsIn (now (rows .entry)) (now (copies .entry))) (noteIn (now (rows .entry))) ⌝ }
 {
     let mut n = 0;
     while n < Links::FRAMES {
@@ -115,7 +116,7 @@ fn levels_apart(
     copies: &mut [usize; linked::COPIES],
 )
     requires { ⌜ Laid (now rows) (now copies) ⌝ }
-    ensures { λ _. ⌜ Hold (now (rows .exit)) (now (copies .exit)) (framesIn (now (rows .entry)) (now (copies .entry))) levels ⌝ }
+    ensures { λ _. ⌜ Hold (now (rows .exit)) (now (copies .exit)) (framesIn (now (rows .entry)) (now (copies .entry))) levels (noteIn (now (rows .entry))) ⌝ }
 {
     let mut n = 0;
     while n < Links::LEVELS {
@@ -126,16 +127,18 @@ fn levels_apart(
 
 pub(crate) fn apart(
     links: Links,
+    thrown: LastThrow,
     rows: &mut [[u32; linked::ROW]; linked::ROWS],
     copies: &mut [usize; linked::COPIES],
 )
     requires { ⌜ Laid (now rows) (now copies) ⌝ }
-    ensures { λ _. ⌜ Hold (now (rows .exit)) (now (copies .exit)) (links .frames) (links .levels) ⌝ }
+    ensures { λ _. ⌜ Hold (now (rows .exit)) (now (copies .exit)) (links .frames) (links .levels) thrown ⌝ }
 {
     let frames = links.frames;
     let levels = links.levels;
     frames_apart(frames, rows, copies);
     levels_apart(levels, rows, copies);
+    linked::note(rows, thrown.address, thrown.code);
 }
 
 pub(crate) fn pointers(machine: Machine) -> Pointers
@@ -228,11 +231,13 @@ pub(crate) fn whole(
         levels,
         e: at.e,
     };
+    let thrown = linked::noted(rows);
     Machine {
         cells: *cells,
         p: at.p,
         links,
         counter: at.counter,
         flag: at.flag,
+        thrown,
     }
 }

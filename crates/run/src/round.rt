@@ -178,13 +178,17 @@ pub(crate) fn rounds(
                     Throw::Code(n) => {
                         let kept = linked::copy_of_s(copies, e);
                         let at = linked::copy_of_p(copies, e);
+                        let to = linked::throw_address(rows, e);
                         cells[at] = n;
+                        linked::note(rows, regs.counter, n);
                         regs.p = at + 1;
                         regs.r = linked::copy_of_r(copies, kept + 1);
                         regs.s = kept;
                         regs.e = e - 1;
-                        regs.counter = linked::throw_address(rows, e);
+                        regs.counter = to;
                         regs = tally::counted(regs, price::price(costs, code));
+                        // as after RESETSP: where all arms meet, the compiler sets more anew for each of them
+                        continue;
                     }
                 }
             }

@@ -36,7 +36,8 @@ pub(crate) fn apart(
         let returns_there = links.returns;
         cells[t] = cells_there;
         returns[t] = returns_there;
-        parts::apart(links, &mut rows[t], &mut copies[t]);
+        let thrown = machine.thrown;
+        parts::apart(links, thrown, &mut rows[t], &mut copies[t]);
         saved[t] = parts::pointers(machine);
         t = t + 1;
     }

@@ -47,7 +47,8 @@ linksFields =
 abbrev pub links : Part Links
 links = fields linksFields
 
--- the parameter cells and P, the linked stacks, the program counter, the extend flag
+-- the parameter cells and P, the linked stacks, the program counter, the extend flag; with request P6 the address and the code of the
+-- last THROW of non-zero
 abbrev pub stateFields : List (Field Machine)
 stateFields =
     array cellsDepth cell of (λ m. m .cells)
@@ -55,6 +56,8 @@ stateFields =
     ∷ links of (λ m. m .links)
     ∷ cell of (λ m. m .counter)
     ∷ cell of (λ m. m .flag)
+    ∷ cell of (λ m. m .thrown .address)
+    ∷ cell of (λ m. m .thrown .code)
     ∷ []
 
 abbrev pub state : Part Machine

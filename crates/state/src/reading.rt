@@ -3,6 +3,7 @@ use crate::places;
 use links::Frame;
 use links::Level;
 use links::Links;
+use machine::LastThrow;
 use machine::Machine;
 use machine::Tasks;
 ghost use mathlib.Core.Path.{_≡_};
@@ -147,6 +148,9 @@ pub(crate) fn machine_at(state: &[u8], at: usize) -> Machine
     let p = pointer_at(state, at + places::STATE_P);
     let counter = cell_at(state, at + places::STATE_COUNTER);
     let flag = cell_at(state, at + places::STATE_FLAG);
+    let address = cell_at(state, at + places::STATE_THROWN_ADDRESS);
+    let code = cell_at(state, at + places::STATE_THROWN_CODE);
+    let thrown = LastThrow { address, code };
     // the linked stacks last, as their frames are (docs/DECISIONS.md)
     let links = links_at(state, at + places::STATE_LINKS);
     Machine {
@@ -155,6 +159,7 @@ pub(crate) fn machine_at(state: &[u8], at: usize) -> Machine
         links,
         counter,
         flag,
+        thrown,
     }
 }
 

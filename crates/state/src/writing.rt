@@ -106,11 +106,14 @@ pub(crate) fn put_machine(state: &mut [u8], at: usize, machine: Machine)
 {
     let cells = machine.cells;
     let links = machine.links;
+    let thrown = machine.thrown;
     put_array(state, at, &cells);
     put_pointer(state, at + places::STATE_P, machine.p);
     put_links(state, at + places::STATE_LINKS, links);
     put_cell(state, at + places::STATE_COUNTER, machine.counter);
     put_cell(state, at + places::STATE_FLAG, machine.flag);
+    put_cell(state, at + places::STATE_THROWN_ADDRESS, thrown.address);
+    put_cell(state, at + places::STATE_THROWN_CODE, thrown.code);
 }
 
 fn put_task(state: &mut [u8], at: usize, machine: Machine, kept: usize)

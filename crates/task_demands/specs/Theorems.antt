@@ -6,6 +6,8 @@ pub mod Only
 pub mod One
 -- demand 3 for each task
 pub mod Three
+-- each task notes its own throws
+pub mod Thrown
 -- isolation: a turn leaves the other tasks alone, and takes no notice of them
 pub mod Isolation
 -- fairness: how long a ready task waits

@@ -5,7 +5,7 @@ use std::fmt::Write;
 use super::image::load_image;
 use super::observer::Observer;
 use super::run::{run, Outcome};
-use super::state::{Answer, Machine};
+use super::state::{Answer, LastThrow, Machine};
 
 /// What became of an image: the text, and the run's outcome where there was a run.
 pub struct Bench {
@@ -33,8 +33,8 @@ pub fn bench(image: &[u8], memory: &mut [u8], observer: &mut impl Observer) -> B
 
 fn report(machine: &Machine, outcome: Outcome) -> String {
     let Outcome { answer, steps, cycles } = outcome;
-    let Machine { program_counter, p, r, s, e, .. } = machine;
-    let mut text = format!("{} {steps} {cycles} {program_counter} {p} {r} {s} {e}\n", answer.number());
+    let Machine { program_counter, p, r, s, e, last_throw: LastThrow { address, code }, .. } = machine;
+    let mut text = format!("{} {steps} {cycles} {program_counter} {p} {r} {s} {e} {address} {code}\n", answer.number());
     for cell in &machine.parameters[..machine.p] {
         // Writing to a string cannot fail.
         let _ = writeln!(text, "{cell:08X}");

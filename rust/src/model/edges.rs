@@ -42,21 +42,21 @@ fn depth_is_judged_after_the_instruction() {
 
 #[test]
 fn budget_is_tested_before_the_end() {
-    assert_eq!(text(&image(&assemble("EXIT"), &[], Some(0))), "1 0 0 0 0 0 0 0\n");
-    assert_eq!(text(&image(&assemble("NOP EXIT"), &[], Some(1))), "1 1 1 1 0 0 0 0\n");
+    assert_eq!(text(&image(&assemble("EXIT"), &[], Some(0))), "1 0 0 0 0 0 0 0 0 0\n");
+    assert_eq!(text(&image(&assemble("NOP EXIT"), &[], Some(1))), "1 1 1 1 0 0 0 0 0 0\n");
 }
 
 #[test]
 fn borrow_needs_a_33rd_bit() {
     // 0 - 1 borrows and leaves FFFFFFFF; x - FFFFFFFF - 1 then borrows again and leaves x.
     let program = assemble("- SUBX ZERO ZERO ADDX EXIT");
-    assert_eq!(text(&image(&program, &[5, 0, 1], None)), "0 5 5 5 2 0 0 0\n00000005\n00000001\n");
+    assert_eq!(text(&image(&program, &[5, 0, 1], None)), "0 5 5 5 2 0 0 0 0 0\n00000005\n00000001\n");
 }
 
 #[test]
 fn reset_keeps_the_flag() {
     let program = assemble("+ RESETSP ZERO ZERO ADDX EXIT");
-    assert_eq!(text(&image(&program, &[u32::MAX, 1], None)), "0 5 5 5 1 0 0 0\n00000001\n");
+    assert_eq!(text(&image(&program, &[u32::MAX, 1], None)), "0 5 5 5 1 0 0 0 0 0\n00000001\n");
 }
 
 #[test]

@@ -1,6 +1,6 @@
 //! The three linked stacks. Room and depth are the caller's to have tested.
 
-use super::state::{Catch, Frame, Machine, LOCALS};
+use super::state::{Catch, Frame, LastThrow, Machine, LOCALS};
 
 impl Machine {
     /// Writes the return address to the return stack and to a new subroutine level, and goes to the target.
@@ -50,8 +50,10 @@ impl Machine {
         }
     }
 
-    /// Takes the machine back to the moment of the top CATCH and hands over the number thrown.
-    pub fn throw(&mut self, number: u32) {
+    /// Takes the machine back to the moment of the top CATCH and hands over the number thrown. It notes that number and the
+    /// address of the THROW, which nothing takes back.
+    pub fn throw(&mut self, address: u32, number: u32) {
+        self.last_throw = LastThrow { address, code: number };
         let catch = self.catches[self.e];
         self.program_counter = catch.throw_address;
         self.s = catch.copy_of_s;
@@ -61,6 +63,7 @@ impl Machine {
         self.e -= 1;
     }
 
+    /// The last throw stays: it is no pointer.
     pub fn reset_pointers(&mut self) {
         self.p = 0;
         self.r = 0;

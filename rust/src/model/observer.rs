@@ -1,22 +1,24 @@
 //! What may be watched of a run from outside.
 
 use super::reach::Reach;
-use super::state::{Machine, MEMORY};
+use super::state::{Answer, LastThrow, Machine, MEMORY};
 use super::turn::Turn;
 
-/// What an observer sees of the machine: the levels of the linked stacks, the flag and the top cell, 0 where there is none.
+/// What an observer sees of the machine: the levels of the linked stacks, the flag, the last throw and the top cell, 0
+/// where there is none.
 #[derive(Clone, Copy)]
 pub struct Seen {
     pub s: usize,
     pub e: usize,
     pub flag: u32,
+    pub last_throw: LastThrow,
     pub top: u32,
 }
 
 impl Seen {
     pub fn of(machine: &Machine) -> Seen {
         let top = machine.p.checked_sub(1).map_or(0, |at| machine.parameters[at]);
-        Seen { s: machine.s, e: machine.e, flag: machine.flag, top }
+        Seen { s: machine.s, e: machine.e, flag: machine.flag, last_throw: machine.last_throw, top }
     }
 }
 
@@ -27,6 +29,9 @@ pub trait Observer {
 
     /// The instruction was completed.
     fn completed(&mut self, _code: u8, _before: Seen, _after: Seen) {}
+
+    /// The instruction was not carried out, and the machine stands as before.
+    fn refused(&mut self, _code: u8, _before: Seen, _answer: Answer) {}
 
     /// The turn of the task of this number is over; it might have taken the quantum, or what was left of the budget.
     fn turn_over(&mut self, _number: usize, _turn: Turn, _quantum: u64, _left: u64) {}

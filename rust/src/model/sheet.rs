@@ -40,7 +40,7 @@ fn caught_with(at_8: &[u8]) -> Vec<u8> {
 #[test]
 fn worked_input() {
     let file = [0, 0, 0, 6, 0x34, 5, 0x34, 7, 0x0E, 0x3D, 0, 0, 0, 0, 0, 0, 0, 1, 0, 0, 3, 0xE8];
-    assert_eq!(text_of(&file), "0 3 5 5 1 0 0 0\n0000000C\n");
+    assert_eq!(text_of(&file), "0 3 5 5 1 0 0 0 0 0\n0000000C\n");
 }
 
 #[test]
@@ -61,22 +61,22 @@ fn every_image_gives_its_expected_text() {
 
 #[test]
 fn caught_throw() {
-    assert_eq!(text(&CAUGHT, &[]), "0 4 9 7 1 0 0 0\n000000FF\n");
+    assert_eq!(text(&CAUGHT, &[]), "0 4 9 7 1 0 0 0 10 255\n000000FF\n");
 }
 
 #[test]
 fn catch_left_by_exit() {
-    assert_eq!(text(&caught_with(&[0x3D]), &[]), "0 4 7 7 1 0 0 0\n00000000\n");
+    assert_eq!(text(&caught_with(&[0x3D]), &[]), "0 4 7 7 1 0 0 0 0 0\n00000000\n");
 }
 
 #[test]
 fn catch_left_by_r_from() {
-    assert_eq!(text(&caught_with(&[0x09, 0x3D]), &[]), "0 3 5 9 1 0 0 0\n00000006\n");
+    assert_eq!(text(&caught_with(&[0x09, 0x3D]), &[]), "0 3 5 9 1 0 0 0 0 0\n00000006\n");
 }
 
 #[test]
 fn branch_to_itself() {
-    assert_eq!(text_of(&image(&[0xFF, 0xFE], &[], Some(5))), "1 5 10 0 0 0 0 0\n");
+    assert_eq!(text_of(&image(&[0xFF, 0xFE], &[], Some(5))), "1 5 10 0 0 0 0 0 0 0\n");
 }
 
 #[test]
@@ -113,7 +113,7 @@ fn edges_of_a_long_fetch() {
 
 #[test]
 fn jump_out_of_memory_is_a_step() {
-    assert_eq!(text(&assemble("JMP"), &[32_768]), "3 1 2 32768 0 0 0 0\n");
+    assert_eq!(text(&assemble("JMP"), &[32_768]), "3 1 2 32768 0 0 0 0 0 0\n");
 }
 
 #[test]
@@ -127,14 +127,14 @@ fn empty_and_full_parameter_stack() {
 fn ninth_catch_and_33rd_call() {
     let nine = lines("ZERO CATCH", &[]);
     assert!(nine[0].starts_with("11 17 "), "{}", nine[0]);
-    assert!(nine[0].ends_with(" 8 8 8"), "{}", nine[0]);
-    assert_eq!(lines("JSL 0", &[])[0], "10 32 64 0 0 32 32 0");
+    assert!(nine[0].ends_with(" 8 8 8 0 0"), "{}", nine[0]);
+    assert_eq!(lines("JSL 0", &[])[0], "10 32 64 0 0 32 32 0 0 0");
 }
 
 #[test]
 fn exit_asks_the_level_and_not_the_return_stack() {
     // R> then >R drops the level: the EXIT that follows finds no level and the run is finished there.
-    assert_eq!(text(&assemble("JSL word EXIT word: R> >R EXIT"), &[]), "0 3 4 7 0 1 0 0\n");
+    assert_eq!(text(&assemble("JSL word EXIT word: R> >R EXIT"), &[]), "0 3 4 7 0 1 0 0 0 0\n");
     // A host's state in which level and return cell differ tells the two directly.
     let mut machine = Machine { r: 1, s: 1, ..Machine::fresh() };
     machine.returns[0] = 100;
@@ -150,7 +150,7 @@ fn throw_takes_r_from_the_level_of_the_catch() {
     let source = "ZERO >R LOAD.B caught CATCH ZERO EXIT caught: ZERO >R JSL deeper deeper: LOAD.B 9 THROW";
     let first = &lines(source, &[])[0];
     assert!(first.starts_with("0 "), "{first}");
-    assert!(first.ends_with(" 1 1 0 0"), "{first}");
+    assert!(first.ends_with(" 1 1 0 0 15 9"), "{first}");
 }
 
 #[test]

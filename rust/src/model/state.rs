@@ -33,6 +33,15 @@ pub struct Catch {
     pub throw_address: u32,
 }
 
+/// The last THROW of non-zero that was carried out; zeros before the first.
+#[derive(Clone, Copy, Debug, Default, PartialEq, Eq)]
+pub struct LastThrow {
+    /// Where that THROW stands.
+    pub address: u32,
+    /// The number thrown.
+    pub code: u32,
+}
+
 /// Everything but the memory. Level 0 of both arrays has cells but makes no use of its other fields.
 #[derive(Clone, Debug, PartialEq, Eq)]
 pub struct Machine {
@@ -47,6 +56,8 @@ pub struct Machine {
     pub program_counter: u32,
     /// The extend flag: 0 or 1.
     pub flag: u32,
+    /// Any two numbers are well formed.
+    pub last_throw: LastThrow,
 }
 
 impl Machine {
@@ -62,6 +73,7 @@ impl Machine {
             e: 0,
             program_counter: 0,
             flag: 0,
+            last_throw: LastThrow::default(),
         }
     }
 

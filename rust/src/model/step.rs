@@ -23,6 +23,7 @@ pub fn step(machine: &mut Machine, memory: &mut [u8; MEMORY], reach: Reach) -> R
 fn carry_out(machine: &mut Machine, memory: &mut [u8; MEMORY], instruction: &Instruction) -> u64 {
     let Instruction { row, operand, next } = *instruction;
     let mut cycles = row.cycles;
+    let here = machine.program_counter;
     machine.program_counter = next;
     match row.op {
         Op::Nop | Op::Pause => {}
@@ -62,7 +63,7 @@ fn carry_out(machine: &mut Machine, memory: &mut [u8; MEMORY], instruction: &Ins
             if number == 0 {
                 cycles = 1;
             } else {
-                machine.throw(number);
+                machine.throw(here, number);
             }
         }
 

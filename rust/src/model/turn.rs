@@ -37,6 +37,7 @@ pub fn turn(
                 observer.completed(code, before, Seen::of(machine));
             }
             Err(answer) => {
+                observer.refused(code, before, answer);
                 turn.left = Some(answer);
                 break;
             }

@@ -4,7 +4,7 @@ use super::bench::bench;
 use super::observer::Observer;
 use super::reach::{PART, SHARED, TASKS};
 use super::run::{run, Outcome};
-use super::state::{Answer, Machine, MEMORY};
+use super::state::{Answer, LastThrow, Machine, MEMORY};
 use super::tasks::{run_tasks, Task, READY};
 use super::turn::Turn;
 use crate::assembler::{assemble, image};
@@ -57,7 +57,7 @@ impl Four {
 #[test]
 fn pause_is_a_nop_in_a_run_of_one_task() {
     let file = image(&assemble("PAUSE PAUSE EXIT"), &[], None);
-    assert_eq!(bench(&file, &mut vec![0; MEMORY], &mut ()).text, "0 2 2 2 0 0 0 0\n");
+    assert_eq!(bench(&file, &mut vec![0; MEMORY], &mut ()).text, "0 2 2 2 0 0 0 0 0 0\n");
 }
 
 #[test]
@@ -155,6 +155,19 @@ fn a_byte_of_a_cell_is_the_running_tasks_own() {
     for (number, task) in four.tasks.iter().enumerate() {
         assert_eq!(task.machine.parameters[..2], [(number as u32 + 1) << 16, 0]);
     }
+}
+
+#[test]
+fn a_throw_is_noted_in_the_running_task_alone() {
+    let start = |number: usize| SHARED + PART * number;
+    let throws = |number| format!("LOAD.W {} CATCH ZERO EXIT LOAD.B {number} THROW", start(number) + 6);
+    let mut four = Four::new([ENDLESS, &throws(1), ENDLESS, &throws(3)]);
+    let before = LastThrow { address: 100, code: 200 };
+    four.tasks.iter_mut().for_each(|task| task.machine.last_throw = before);
+    four.run(1, 100);
+    let thrown = |number| LastThrow { address: start(number) as u32 + 8, code: number as u32 };
+    let noted = four.tasks.each_ref().map(|task| task.machine.last_throw);
+    assert_eq!(noted, [before, thrown(1), before, thrown(3)]);
 }
 
 /// What a run of endless tasks leaves, after something was done to them.

@@ -39,7 +39,7 @@ report-apart ran out = by-test (leb (ran .machine .p) cellsDepth) refl
   where
     by-test : (t : Bool) → leb (ran .machine .p) cellsDepth ≡ t → Apart (pick t (printedIn (textOf ran) out) (untouched out) .printed)
     by-test true e =
-        let long : 16 ≤ length (textOf ran) = text-size ran (leb-true _ _ e) .0 in
+        let long : 20 ≤ length (textOf ran) = text-size ran (leb-true _ _ e) .0 in
         printed-apart (textOf ran) out (omega arith)
     by-test false e = refl
 

@@ -1,4 +1,5 @@
 -- A step that is carried out keeps what a machine that exists can hold, where every byte of the memory is one; and leaves such a memory.
+use mathlib.Core.Logic.{⊎-elim}
 use mathlib.Core.Path.{_≡_, refl, sym, subst, _∙_}
 use mathlib.Core.Bool.{Bool, true, false}
 use mathlib.Core.List.{List, [], _∷_}
@@ -15,6 +16,7 @@ use Rattle.numbers.specs.Bytes.{bytesOf}
 use Rattle.numbers.specs.Laws.Bytes.{Bytes, number-below}
 use Rattle.numbers.specs.Laws.Rewriting.{spelled-bytes, list-bytes, bytes-at}
 use Rattle.links.specs.Depths.{localsCount, levelCells}
+use Rattle.links.specs.Actions.{Act, throw}
 use Rattle.links.specs.Linked.{frameAt, levelAt}
 use Rattle.links.specs.Fits.{CellFits, LinksFit}
 use Rattle.links.specs.Laws.Carries.{ActFits, frame-in-view, level-in-view, act-fits}
@@ -29,14 +31,15 @@ use Rattle.machine.specs.Memory.{size, placeOf}
 use Rattle.machine.specs.View.{bytesOfCells, overwritten}
 use Rattle.machine.specs.Fetch.{Instruction, operandAt, instructionAt}
 use Rattle.machine.specs.Rows.{Row, top, second, topReturn, localsInView, cellsInView, inView, cellsRow, throwRow, rowOf, linkRow, shuffled, target, twoRow, fetchRow, storeRow}
-use Rattle.machine.specs.Step.{done, stepOf, rowAt}
+use Rattle.machine.specs.Step.{done, noted, stepOf, rowAt}
 use Rattle.machine.specs.Run.{After, ended, runFrom, acceptable, runOf}
-use Rattle.machine.specs.Fits.{Fits, AllBytes, Exist}
+use Rattle.machine.specs.Fits.{ThrowFits, Fits, AllBytes, Exist}
 use Rattle.machine.specs.Laws.Tables.{Everywhere, at-code}
 use Rattle.machine.specs.Laws.Along.{along}
 use Rattle.machine.specs.Laws.Passed.{step-done}
 use Rattle.machine.specs.Laws.CellBytes.{overwritten-long, overwritten-fits}
 use Rattle.machine.specs.Laws.Kept.{Formed, allowed-at, step-kept}
+use Rattle.machine.specs.Laws.Noted.{throws-or-keeps}
 use Rattle.machine.specs.Laws.Accepted.{taken}
 use Rattle.machine.specs.declared.Machine.{Machine}
 use Rattle.machine.specs.declared.Reach.{Reach}
@@ -54,6 +57,14 @@ pub record RowFits (row : Row) : Type 0 where
 
 pub cell-fits : (m : Machine) → Fits m → (n : ℕ) → CellFits (getD (m .cells) n 0)
 cell-fits m h n = all-read CellFits (m .cells) (h .cells-fit) n 0 (omega arith)
+
+-- an address noted is a counter, and a code thrown a cell
+noted-fits : (m : Machine) → Fits m → (a : Act) → ThrowFits (noted a m)
+noted-fits m h a =
+    ⊎-elim
+    (λ (is : a ≡ throw).
+    subst (λ (x : Act). ThrowFits (noted x m)) (sym is) (record { address-fits = h .counter-fits; code-fits = cell-fits m h (m .p - 1) }))
+    (λ (same : noted a m ≡ m .thrown). subst ThrowFits (sym same) (h .thrown-fits)) (throws-or-keeps m a)
 
 width-below : (w : Width) (n : ℕ) → n < 2 ^ (8 * size w) → CellFits n
 width-below Byte n h = omega arith
@@ -226,6 +237,7 @@ step-carries reach mem m mem′ m′ k formed x e =
             links-fit = subst (λ (y : Machine). LinksFit (y .links)) (sym (d .machine)) links-fit;
             counter-fits = subst (λ (y : Machine). CellFits (y .counter)) (sym (d .machine)) (row .goes-fits);
             flag-fits = omega (arith, g .formed .flag-within);
+            thrown-fits = subst (λ (y : Machine). ThrowFits (y .thrown)) (sym (d .machine)) (noted-fits m h (rowAt reach mem m .link));
           };
       bytes = subst AllBytes (sym (d .memory)) (row .memory-fits);
     }

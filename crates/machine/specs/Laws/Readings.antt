@@ -51,4 +51,6 @@ throw-leaves reach mem m mem′ m′ k e is other =
       s-copied = ap (λ (x : Machine). x .links .s) l;
       r-copied = ap (λ (x : Machine). x .links .r) l;
       p-copied = omega arith;
+      address-noted = ap (λ (x : Machine). x .thrown .address) l;
+      code-noted = ap (λ (x : Machine). x .thrown .code) l;
     }

@@ -34,6 +34,7 @@ start-exists code cells bytes fit within =
             links-fit = fresh-fits;
             counter-fits = lit< tt;
             flag-fits = lit< tt;
+            thrown-fits = record { address-fits = lit< tt; code-fits = lit< tt };
           };
       bytes = all-padded _ memoryLength code bytes (lit< tt);
     }

@@ -47,7 +47,7 @@ cells-size (v ∷ vs) =
     length-append (cellLine v) (cellLines vs) ∙ omega arith
 
 -- every run's text fits the longest: the constant LONGEST of the code
-pub text-size : (ran : Ran) → ran .machine .p ≤ cellsDepth → (16 ≤ length (textOf ran)) × (length (textOf ran) ≤ longest)
+pub text-size : (ran : Ran) → ran .machine .p ≤ cellsDepth → (20 ≤ length (textOf ran)) × (length (textOf ran) ≤ longest)
 unfolding textOf
 text-size ran h =
     let cells = take (ran .machine .p) (ran .machine .cells) in
@@ -61,7 +61,7 @@ both-first : (a b : Bool) → both a b ≡ true → a ≡ true
 both-first true b h = refl
 both-first false b h = h
 
-pub well-formed-size : (ran : Ran) → wellFormed (ran .machine) ≡ true → (16 ≤ length (textOf ran)) × (length (textOf ran) ≤ longest)
+pub well-formed-size : (ran : Ran) → wellFormed (ran .machine) ≡ true → (20 ≤ length (textOf ran)) × (length (textOf ran) ≤ longest)
 unfolding wellFormed
 well-formed-size ran h = text-size ran (leb-true _ _ (both-first (leb (ran .machine .p) cellsDepth) _ h))
 

@@ -40,6 +40,8 @@ machine-carried m whole h =
     and links-carried (m .links) (whole .shaped) (h .links-fit)
     and h .counter-fits
     and h .flag-fits
+    and h .thrown-fits .address-fits
+    and h .thrown-fits .code-fits
     and tt
 
 -- what is carried exists
@@ -69,6 +71,7 @@ machine-exists m h =
       links-fit = links-exist (m .links) (h .1 .1 .0);
       counter-fits = h .1 .1 .1 .0;
       flag-fits = h .1 .1 .1 .1 .0;
+      thrown-fits = record { address-fits = h .1 .1 .1 .1 .1 .0; code-fits = h .1 .1 .1 .1 .1 .1 .0 };
     }
 
 -- its lists are as long as the arrays that they stand for

@@ -36,8 +36,17 @@ links-sound =
 
 pub state-sound : Sound state
 state-sound =
-    fields-sound stateFields (array-sound cell cell-sound cellsDepth and pointer-sound and links-sound and cell-sound and cell-sound and tt)
-    (λ m n e i. record { cells = e .0 i; p = e .1 .0 i; links = e .1 .1 .0 i; counter = e .1 .1 .1 .0 i; flag = e .1 .1 .1 .1 .0 i })
+    fields-sound stateFields
+    (array-sound cell cell-sound cellsDepth and pointer-sound and links-sound and cell-sound and cell-sound and cell-sound and cell-sound and tt)
+    (λ m n e i.
+    record {
+      cells = e .0 i;
+      p = e .1 .0 i;
+      links = e .1 .1 .0 i;
+      counter = e .1 .1 .1 .0 i;
+      flag = e .1 .1 .1 .1 .0 i;
+      thrown = record { address = e .1 .1 .1 .1 .1 .0 i; code = e .1 .1 .1 .1 .1 .1 .0 i };
+    })
 
 pub task-sound : Sound task
 task-sound = fields-sound taskFields (state-sound and pointer-sound and tt) (λ t u e i. record { machine = e .0 i; kept = e .1 .0 i })

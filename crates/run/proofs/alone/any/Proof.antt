@@ -1,4 +1,4 @@
--- Made by .ci/named from any.rules: 919b2c3ffdcd4f07 470879b2295225ee
+-- Made by .ci/named from any.rules: 92c489ed6dda7b60 24382537732874bc
 -- The machine's levels go to rows, the loop runs, and the rows become the machine handed back.
 use mathlib.Core.Path.{_≡_, refl, ap, _∙_, subst⁻¹}
 use mathlib.Core.Bool.{true, false}
@@ -21,7 +21,7 @@ pointers-requires c κs = search needs
 
 rounds-requires : tie.Need-rounds-requires
 unfolding cycleTable table
-rounds-requires c κs = record { accepted = subst⁻¹ (λ (m : Machine). acceptable (c .before .before .before .before .before .before .before .before .before .before .before .before .before .before .args .mem .now) m (c .before .before .before .before .before .before .before .before .before .before .before .before .before .before .args .budget) ≡ true) (whole-again (c .before .before .before .before .before .before .before .before .before .before .before .before .before .before .args .machine) (c .before .before .before .before .before .before .before .apart .ensures) (c .before .before .before .before .before .before .pointers .ensures)) (c .before .before .before .before .before .before .before .before .before .before .before .before .before .before .pre); whole = record { cells-long = search needs; shaped = record { returns-long = search needs; frames-long = frames-long _ _; levels-long = levels-long _ _ } }; laid = c .before .before .before .before .before .before .before .apart .ensures .laid; bounded = record { shared-within = omega arith; end-within = omega arith }; priced = refl }
+rounds-requires c κs = record { accepted = subst⁻¹ (λ (m : Machine). acceptable (c .before .before .before .before .before .before .before .before .before .before .before .before .before .before .before .args .mem .now) m (c .before .before .before .before .before .before .before .before .before .before .before .before .before .before .before .args .budget) ≡ true) (whole-again (c .before .before .before .before .before .before .before .before .before .before .before .before .before .before .before .args .machine) (c .before .before .before .before .before .before .before .apart .ensures) (c .before .before .before .before .before .before .pointers .ensures)) (c .before .before .before .before .before .before .before .before .before .before .before .before .before .before .before .pre); whole = record { cells-long = search (needs, c .before .before .before .before .before .before .before .before .before .before .before .before .before .before .before .good); shaped = record { returns-long = search (needs, c .before .before .before .before .before .before .before .before .before .before .before .before .before .before .before .good); frames-long = frames-long _ _; levels-long = levels-long _ _ } }; laid = c .before .before .before .before .before .before .before .apart .ensures .laid; bounded = record { shared-within = omega arith; end-within = omega arith }; priced = refl }
 
 finished-requires : tie.Need-finished-requires
 finished-requires c κs = (c .before .before .before .before .before .before .rounds .ensures .unspent-within, c .before .before .before .before .before .before .rounds .ensures .laid)
@@ -30,7 +30,7 @@ same-length : tie.Need-same-length
 same-length c = search needs
 
 returns : tie.Need-returns
-returns c = c .finished .ensures (c .before .before .before .before .before .before .before .rounds .last .0) ∙ (c .before .before .before .before .before .before .before .rounds .ensures .same ∙ ap (λ (m : Machine). runFrom alone false (c .before .before .before .before .before .before .before .before .before .before .before .before .before .before .before .before .before .before .before .before .before .before .args .budget) (c .before .before .before .before .before .before .before .before .before .before .before .before .before .before .before .before .before .before .before .before .before .before .args .mem .now) m 0 0) (whole-again (c .before .before .before .before .before .before .before .before .before .before .before .before .before .before .before .before .before .before .before .before .before .before .args .machine) (c .before .before .before .before .before .before .before .before .before .before .before .before .before .before .before .apart .ensures) (c .before .before .before .before .before .before .before .before .before .before .before .before .before .before .pointers .ensures)))
+returns c = c .finished .ensures (c .before .before .before .before .before .before .before .rounds .last .0) ∙ (c .before .before .before .before .before .before .before .rounds .ensures .same ∙ ap (λ (m : Machine). runFrom alone false (c .before .before .before .before .before .before .before .before .before .before .before .before .before .before .before .before .before .before .before .before .before .before .before .args .budget) (c .before .before .before .before .before .before .before .before .before .before .before .before .before .before .before .before .before .before .before .before .before .before .before .args .mem .now) m 0 0) (whole-again (c .before .before .before .before .before .before .before .before .before .before .before .before .before .before .before .before .before .before .before .before .before .before .before .args .machine) (c .before .before .before .before .before .before .before .before .before .before .before .before .before .before .before .apart .ensures) (c .before .before .before .before .before .before .before .before .before .before .before .before .before .before .pointers .ensures)))
 
 pub any-spec : {M : Type 1} → statement M
 any-spec =

@@ -1,5 +1,5 @@
--- Made by .ci/named from apart.rules: 9fc5200891575454 3a88dc7e4e72e4de
--- The subroutine levels, then the exception levels.
+-- Made by .ci/named from apart.rules: 18a497102a125b91 98d9ddfef45fa2b5
+-- The subroutine levels, then the exception levels, then the last THROW.
 use mathlib.Core.Path.{_∙_}
 use borrow.Author.Needs.{needs}
 use Rattle.run.proofs.parts.apart.Statement.{statement}
@@ -11,8 +11,11 @@ frames-apart-requires c κs = search needs
 levels-apart-requires : tie.Need-levels-apart-requires
 levels-apart-requires c κs = search needs
 
+note-requires : tie.Need-note-requires
+note-requires c κs = search needs
+
 returns : tie.Need-returns
-returns c = record { laid = c .levels-apart .ensures .laid; frames-are = c .levels-apart .ensures .frames-are ∙ c .before .before .before .frames-apart .ensures .frames-are; levels-are = c .levels-apart .ensures .levels-are }
+returns c = record { laid = (c .note .ensures (c .before .before .levels-apart .last .1 .1 .0) (c .before .before .levels-apart .ensures .laid)) .laid; frames-are = (c .note .ensures (c .before .before .levels-apart .last .1 .1 .0) (c .before .before .levels-apart .ensures .laid)) .frames-are ∙ (c .before .before .levels-apart .ensures .frames-are ∙ c .before .before .before .before .before .frames-apart .ensures .frames-are); levels-are = (c .note .ensures (c .before .before .levels-apart .last .1 .1 .0) (c .before .before .levels-apart .ensures .laid)) .levels-are ∙ c .before .before .levels-apart .ensures .levels-are; note-is = (c .note .ensures (c .before .before .levels-apart .last .1 .1 .0) (c .before .before .levels-apart .ensures .laid)) .note-is }
 
 pub apart-spec : {M : Type 1} → statement M
 apart-spec =
@@ -20,4 +23,5 @@ apart-spec =
     (tie.spec
     frames-apart-requires
     levels-apart-requires
+    note-requires
     returns)

@@ -1,5 +1,5 @@
--- Made by .ci/named from whole.rules: a4a82513ea54b689 11d00034e62d7272
--- The machine's levels are those of the rows.
+-- Made by .ci/named from whole.rules: fc44cd406011c20c 7fda40205f4317fa
+-- The machine's levels and its last THROW are those of the rows.
 use borrow.Author.Needs.{needs}
 use Rattle.run.proofs.parts.whole.Statement.{statement}
 use Rattle.run.proofs.parts.whole.Tie as tie
@@ -10,8 +10,11 @@ frames-whole-requires c κs = search needs
 levels-whole-requires : tie.Need-levels-whole-requires
 levels-whole-requires c κs = search needs
 
+noted-requires : tie.Need-noted-requires
+noted-requires c κs = search needs
+
 returns : tie.Need-returns
-returns c = rw (c .before .before .before .frames-whole .ensures, c .before .before .levels-whole .ensures)
+returns c = rw (c .before .before .before .before .frames-whole .ensures, c .before .before .before .levels-whole .ensures, c .before .noted .ensures)
 
 pub whole-spec : {M : Type 1} → statement M
 whole-spec =
@@ -19,4 +22,5 @@ whole-spec =
     (tie.spec
     frames-whole-requires
     levels-whole-requires
+    noted-requires
     returns)

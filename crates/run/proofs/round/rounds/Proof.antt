@@ -1,4 +1,4 @@
--- Made by .ci/named from rounds.rules: a858076b7516e1e9 679f7274a7ab68b7
+-- Made by .ci/named from rounds.rules: fc59a04f0927cd24 49a040e2cb78ef5a
 -- The loop is the definition's run: each round is one step of `stepOf`, and what ends it is the definition's own.
 use mathlib.Core.Path.{_≡_, refl, ap, sym, _∙_}
 use mathlib.Core.Bool.{false}
@@ -15,7 +15,7 @@ use Rattle.reach.specs.Spots.{widthOf}
 use Rattle.reach.specs.Spots.{saysReached}
 use Rattle.run.specs.Answers.{saysFetched, saysChecked, saysExit, saysThrown, saysDone}
 use Rattle.run.specs.Registers.{machineIn, haltedBy}
-use Rattle.run.specs.Levels.{framesIn, levelsIn, inRows, Laid}
+use Rattle.run.specs.Levels.{framesIn, levelsIn, noteIn, inRows, Laid}
 use Rattle.run.specs.Verdicts.{sAfterPop, eAfterDropOf, eAfterPop}
 use Rattle.reach.specs.declared.Reached.the-variants as reached
 use Rattle.run.specs.declared.Thrown.the-variants as thrown
@@ -31,7 +31,7 @@ use Rattle.run.proofs.round.rounds.Tie as tie
 
 abbrev Inv-loop : tie.InvT-loop
 Inv-loop mem₀ cells₀ returns₀ rows₀ copies₀ costs left reach turns regs₀ mem cells returns rows copies regs =
-    Round reach turns mem₀ (machineIn cells₀ returns₀ (framesIn rows₀ copies₀) (levelsIn rows₀ copies₀) regs₀) left mem cells returns (framesIn rows copies) (levelsIn rows copies) regs ×
+    Round reach turns mem₀ (machineIn cells₀ returns₀ (framesIn rows₀ copies₀) (levelsIn rows₀ copies₀) (noteIn rows₀) regs₀) left mem cells returns (framesIn rows copies) (levelsIn rows copies) (noteIn rows) regs ×
     ((costs ≡ cycleTable) × Laid rows copies)
 
 abbrev μ-loop : tie.MeasureT-loop
@@ -53,7 +53,7 @@ found : (t : tie.After-known-told Inv-loop μ-loop) →
     let f = t .before .fetched .given .0 in
     let a = start-of t .args in
     Found (a .reach) (a .turns) (a .mem .now) (inRows (a .cells .now) (a .returns .now) (a .rows .now) (a .copies .now) (a .start)) (a .left)
-    (l .mem) (l .cells) (l .returns) (framesIn (l .rows) (l .copies)) (levelsIn (l .rows) (l .copies)) (l .regs) (f .0) (f .1 .0) (f .1 .1 .0)
+    (l .mem) (l .cells) (l .returns) (framesIn (l .rows) (l .copies)) (levelsIn (l .rows) (l .copies)) (noteIn (l .rows)) (l .regs) (f .0) (f .1 .0) (f .1 .1 .0)
 found t =
     record {
       round = loop-of t .loop .inv .0;
@@ -421,38 +421,41 @@ copy-of-s-requires-2 c κs = omega (arith, (c .before .before .before .before .b
 copy-of-p-requires : tie.Need-copy-of-p-requires Inv-loop μ-loop
 copy-of-p-requires c κs = omega (arith, (c .before .before .before .before .before .before .before .before .before .before .before .before .before .before .before .before .before .before .before .before .before .before .before .loop .inv .0) .e-within)
 
+throw-address-requires : tie.Need-throw-address-requires Inv-loop μ-loop
+throw-address-requires c κs = omega (arith, (c .before .before .before .before .before .before .before .before .before .before .before .before .before .before .before .before .before .before .before .before .before .before .before .before .before .loop .inv .0) .e-within)
+
 mul-cells-5 : tie.Need-mul-cells-5 Inv-loop μ-loop
-mul-cells-5 c = omega (arith, (c .before .before .before .before .before .before .before .before .before .before .before .before .before .before .before .before .before .before .before .before .before .before .before .before .loop .inv .0) .catcher (code-room (c .before .before .before .before .before .before .before .before .before .before .before .before .before .before .before .before .before .before .before .before .before .before .before .before .loop .cells) (c .before .before .before .before .before .before .before .before .before .before .before .before .before .before .before .before .before .before .before .before .before .before .before .before .loop .regs .p) (told saysThrown (c .before .before .before .before .before .before .before .before .before .before .can-throw .ensures) (c .before .before .before .before .before .before .before .before .thrown .given .1 ∙ ap thrown.Found (c .before .before .before .before .before .throw .given .1)))), c .copy-of-p .ensures (c .before .before .before .before .before .before .before .before .before .before .before .before .before .before .before .before .before .before .before .before .before .before .before .before .loop .rows), (c .before .before .before .before .before .before .before .before .before .before .before .before .before .before .before .before .before .before .before .before .before .before .before .before .loop .inv .0) .s-within, (c .before .before .copy-of-s2 .ensures (c .before .before .before .before .before .before .before .before .before .before .before .before .before .before .before .before .before .before .before .before .before .before .before .before .loop .rows)))
+mul-cells-5 c = omega (arith, (c .before .before .before .before .before .before .before .before .before .before .before .before .before .before .before .before .before .before .before .before .before .before .before .before .before .before .loop .inv .0) .catcher (code-room (c .before .before .before .before .before .before .before .before .before .before .before .before .before .before .before .before .before .before .before .before .before .before .before .before .before .before .loop .cells) (c .before .before .before .before .before .before .before .before .before .before .before .before .before .before .before .before .before .before .before .before .before .before .before .before .before .before .loop .regs .p) (told saysThrown (c .before .before .before .before .before .before .before .before .before .before .before .before .can-throw .ensures) (c .before .before .before .before .before .before .before .before .before .before .thrown .given .1 ∙ ap thrown.Found (c .before .before .before .before .before .before .before .throw .given .1)))), c .before .before .copy-of-p .ensures (c .before .before .before .before .before .before .before .before .before .before .before .before .before .before .before .before .before .before .before .before .before .before .before .before .before .before .loop .rows), (c .before .before .before .before .before .before .before .before .before .before .before .before .before .before .before .before .before .before .before .before .before .before .before .before .before .before .loop .inv .0) .s-within, (c .before .before .before .before .copy-of-s2 .ensures (c .before .before .before .before .before .before .before .before .before .before .before .before .before .before .before .before .before .before .before .before .before .before .before .before .before .before .loop .rows)))
 
 element-write-cells-3 : tie.Need-element-write-cells-3 Inv-loop μ-loop
-element-write-cells-3 c = omega (arith, (c .before .before .before .before .before .before .before .before .before .before .before .before .before .before .before .before .before .before .before .before .before .before .before .before .loop .inv .0) .catcher (code-room (c .before .before .before .before .before .before .before .before .before .before .before .before .before .before .before .before .before .before .before .before .before .before .before .before .loop .cells) (c .before .before .before .before .before .before .before .before .before .before .before .before .before .before .before .before .before .before .before .before .before .before .before .before .loop .regs .p) (told saysThrown (c .before .before .before .before .before .before .before .before .before .before .can-throw .ensures) (c .before .before .before .before .before .before .before .before .thrown .given .1 ∙ ap thrown.Found (c .before .before .before .before .before .throw .given .1)))), c .copy-of-p .ensures (c .before .before .before .before .before .before .before .before .before .before .before .before .before .before .before .before .before .before .before .before .before .before .before .before .loop .rows), (c .before .before .before .before .before .before .before .before .before .before .before .before .before .before .before .before .before .before .before .before .before .before .before .before .loop .inv .0) .s-within, (c .before .before .copy-of-s2 .ensures (c .before .before .before .before .before .before .before .before .before .before .before .before .before .before .before .before .before .before .before .before .before .before .before .before .loop .rows)))
+element-write-cells-3 c = omega (arith, (c .before .before .before .before .before .before .before .before .before .before .before .before .before .before .before .before .before .before .before .before .before .before .before .before .before .before .loop .inv .0) .catcher (code-room (c .before .before .before .before .before .before .before .before .before .before .before .before .before .before .before .before .before .before .before .before .before .before .before .before .before .before .loop .cells) (c .before .before .before .before .before .before .before .before .before .before .before .before .before .before .before .before .before .before .before .before .before .before .before .before .before .before .loop .regs .p) (told saysThrown (c .before .before .before .before .before .before .before .before .before .before .before .before .can-throw .ensures) (c .before .before .before .before .before .before .before .before .before .before .thrown .given .1 ∙ ap thrown.Found (c .before .before .before .before .before .before .before .throw .given .1)))), c .before .before .copy-of-p .ensures (c .before .before .before .before .before .before .before .before .before .before .before .before .before .before .before .before .before .before .before .before .before .before .before .before .before .before .loop .rows), (c .before .before .before .before .before .before .before .before .before .before .before .before .before .before .before .before .before .before .before .before .before .before .before .before .before .before .loop .inv .0) .s-within, (c .before .before .before .before .copy-of-s2 .ensures (c .before .before .before .before .before .before .before .before .before .before .before .before .before .before .before .before .before .before .before .before .before .before .before .before .before .before .loop .rows)))
+
+note-requires : tie.Need-note-requires Inv-loop μ-loop
+note-requires c κs = search needs
 
 add-regs-7 : tie.Need-add-regs-7 Inv-loop μ-loop
-add-regs-7 c = omega (arith, (c .before .before .before .before .before .before .before .before .before .before .before .before .before .before .before .before .before .before .before .before .before .before .before .before .loop .inv .0) .catcher (code-room (c .before .before .before .before .before .before .before .before .before .before .before .before .before .before .before .before .before .before .before .before .before .before .before .before .loop .cells) (c .before .before .before .before .before .before .before .before .before .before .before .before .before .before .before .before .before .before .before .before .before .before .before .before .loop .regs .p) (told saysThrown (c .before .before .before .before .before .before .before .before .before .before .can-throw .ensures) (c .before .before .before .before .before .before .before .before .thrown .given .1 ∙ ap thrown.Found (c .before .before .before .before .before .throw .given .1)))), c .copy-of-p .ensures (c .before .before .before .before .before .before .before .before .before .before .before .before .before .before .before .before .before .before .before .before .before .before .before .before .loop .rows), (c .before .before .before .before .before .before .before .before .before .before .before .before .before .before .before .before .before .before .before .before .before .before .before .before .loop .inv .0) .s-within, (c .before .before .copy-of-s2 .ensures (c .before .before .before .before .before .before .before .before .before .before .before .before .before .before .before .before .before .before .before .before .before .before .before .before .loop .rows)))
+add-regs-7 c = omega (arith, (c .before .before .before .before .before .before .before .before .before .before .before .before .before .before .before .before .before .before .before .before .before .before .before .before .before .before .before .before .loop .inv .0) .catcher (code-room (c .before .before .before .before .before .before .before .before .before .before .before .before .before .before .before .before .before .before .before .before .before .before .before .before .before .before .before .before .loop .cells) (c .before .before .before .before .before .before .before .before .before .before .before .before .before .before .before .before .before .before .before .before .before .before .before .before .before .before .before .before .loop .regs .p) (told saysThrown (c .before .before .before .before .before .before .before .before .before .before .before .before .before .before .can-throw .ensures) (c .before .before .before .before .before .before .before .before .before .before .before .before .thrown .given .1 ∙ ap thrown.Found (c .before .before .before .before .before .before .before .before .before .throw .given .1)))), c .before .before .before .before .copy-of-p .ensures (c .before .before .before .before .before .before .before .before .before .before .before .before .before .before .before .before .before .before .before .before .before .before .before .before .before .before .before .before .loop .rows), (c .before .before .before .before .before .before .before .before .before .before .before .before .before .before .before .before .before .before .before .before .before .before .before .before .before .before .before .before .loop .inv .0) .s-within, (c .before .before .before .before .before .before .copy-of-s2 .ensures (c .before .before .before .before .before .before .before .before .before .before .before .before .before .before .before .before .before .before .before .before .before .before .before .before .before .before .before .before .loop .rows)))
 
 add-copy-of-r : tie.Need-add-copy-of-r Inv-loop μ-loop
-add-copy-of-r c = omega (arith, (c .before .before .before .before .before .before .before .before .before .before .before .before .before .before .before .before .before .before .before .before .before .before .before .before .before .loop .inv .0) .catcher (code-room (c .before .before .before .before .before .before .before .before .before .before .before .before .before .before .before .before .before .before .before .before .before .before .before .before .before .loop .cells) (c .before .before .before .before .before .before .before .before .before .before .before .before .before .before .before .before .before .before .before .before .before .before .before .before .before .loop .regs .p) (told saysThrown (c .before .before .before .before .before .before .before .before .before .before .before .can-throw .ensures) (c .before .before .before .before .before .before .before .before .before .thrown .given .1 ∙ ap thrown.Found (c .before .before .before .before .before .before .throw .given .1)))), c .before .copy-of-p .ensures (c .before .before .before .before .before .before .before .before .before .before .before .before .before .before .before .before .before .before .before .before .before .before .before .before .before .loop .rows), (c .before .before .before .before .before .before .before .before .before .before .before .before .before .before .before .before .before .before .before .before .before .before .before .before .before .loop .inv .0) .s-within, (c .before .before .before .copy-of-s2 .ensures (c .before .before .before .before .before .before .before .before .before .before .before .before .before .before .before .before .before .before .before .before .before .before .before .before .before .loop .rows)))
+add-copy-of-r c = omega (arith, (c .before .before .before .before .before .before .before .before .before .before .before .before .before .before .before .before .before .before .before .before .before .before .before .before .before .before .before .before .before .loop .inv .0) .catcher (code-room (c .before .before .before .before .before .before .before .before .before .before .before .before .before .before .before .before .before .before .before .before .before .before .before .before .before .before .before .before .before .loop .cells) (c .before .before .before .before .before .before .before .before .before .before .before .before .before .before .before .before .before .before .before .before .before .before .before .before .before .before .before .before .before .loop .regs .p) (told saysThrown (c .before .before .before .before .before .before .before .before .before .before .before .before .before .before .before .can-throw .ensures) (c .before .before .before .before .before .before .before .before .before .before .before .before .before .thrown .given .1 ∙ ap thrown.Found (c .before .before .before .before .before .before .before .before .before .before .throw .given .1)))), c .before .before .before .before .before .copy-of-p .ensures (c .before .before .before .before .before .before .before .before .before .before .before .before .before .before .before .before .before .before .before .before .before .before .before .before .before .before .before .before .before .loop .rows), (c .before .before .before .before .before .before .before .before .before .before .before .before .before .before .before .before .before .before .before .before .before .before .before .before .before .before .before .before .before .loop .inv .0) .s-within, (c .before .before .before .before .before .before .before .copy-of-s2 .ensures (c .before .before .before .before .before .before .before .before .before .before .before .before .before .before .before .before .before .before .before .before .before .before .before .before .before .before .before .before .before .loop .rows)))
 
 copy-of-r-requires-2 : tie.Need-copy-of-r-requires-2 Inv-loop μ-loop
-copy-of-r-requires-2 c κs = omega (arith, (c .before .before .before .before .before .before .before .before .before .before .before .before .before .before .before .before .before .before .before .before .before .before .before .before .before .loop .inv .0) .s-within, (c .before .before .before .before .before .before .before .before .before .before .before .before .before .before .before .before .before .before .before .before .before .before .before .before .before .loop .inv .0) .catcher (code-room (c .before .before .before .before .before .before .before .before .before .before .before .before .before .before .before .before .before .before .before .before .before .before .before .before .before .loop .cells) (c .before .before .before .before .before .before .before .before .before .before .before .before .before .before .before .before .before .before .before .before .before .before .before .before .before .loop .regs .p) (told saysThrown (c .before .before .before .before .before .before .before .before .before .before .before .can-throw .ensures) (c .before .before .before .before .before .before .before .before .before .thrown .given .1 ∙ ap thrown.Found (c .before .before .before .before .before .before .throw .given .1)))), (c .before .before .before .copy-of-s2 .ensures (c .before .before .before .before .before .before .before .before .before .before .before .before .before .before .before .before .before .before .before .before .before .before .before .before .before .loop .rows)))
+copy-of-r-requires-2 c κs = omega (arith, (c .before .before .before .before .before .before .before .before .before .before .before .before .before .before .before .before .before .before .before .before .before .before .before .before .before .before .before .before .before .loop .inv .0) .s-within, (c .before .before .before .before .before .before .before .before .before .before .before .before .before .before .before .before .before .before .before .before .before .before .before .before .before .before .before .before .before .loop .inv .0) .catcher (code-room (c .before .before .before .before .before .before .before .before .before .before .before .before .before .before .before .before .before .before .before .before .before .before .before .before .before .before .before .before .before .loop .cells) (c .before .before .before .before .before .before .before .before .before .before .before .before .before .before .before .before .before .before .before .before .before .before .before .before .before .before .before .before .before .loop .regs .p) (told saysThrown (c .before .before .before .before .before .before .before .before .before .before .before .before .before .before .before .can-throw .ensures) (c .before .before .before .before .before .before .before .before .before .before .before .before .before .thrown .given .1 ∙ ap thrown.Found (c .before .before .before .before .before .before .before .before .before .before .throw .given .1)))), (c .before .before .before .before .before .before .before .copy-of-s2 .ensures (c .before .before .before .before .before .before .before .before .before .before .before .before .before .before .before .before .before .before .before .before .before .before .before .before .before .before .before .before .before .loop .rows)))
 
 sub-regs-5 : tie.Need-sub-regs-5 Inv-loop μ-loop
-sub-regs-5 c = omega (arith, (code-room (c .before .before .before .before .before .before .before .before .before .before .before .before .before .before .before .before .before .before .before .before .before .before .before .before .before .before .loop .cells) (c .before .before .before .before .before .before .before .before .before .before .before .before .before .before .before .before .before .before .before .before .before .before .before .before .before .before .loop .regs .p) (told saysThrown (c .before .before .before .before .before .before .before .before .before .before .before .before .can-throw .ensures) (c .before .before .before .before .before .before .before .before .before .before .thrown .given .1 ∙ ap thrown.Found (c .before .before .before .before .before .before .before .throw .given .1)))))
-
-throw-address-requires : tie.Need-throw-address-requires Inv-loop μ-loop
-throw-address-requires c κs = omega (arith, (c .before .before .before .before .before .before .before .before .before .before .before .before .before .before .before .before .before .before .before .before .before .before .before .before .before .before .before .loop .inv .0) .e-within)
+sub-regs-5 c = omega (arith, (code-room (c .before .before .before .before .before .before .before .before .before .before .before .before .before .before .before .before .before .before .before .before .before .before .before .before .before .before .before .before .before .before .loop .cells) (c .before .before .before .before .before .before .before .before .before .before .before .before .before .before .before .before .before .before .before .before .before .before .before .before .before .before .before .before .before .before .loop .regs .p) (told saysThrown (c .before .before .before .before .before .before .before .before .before .before .before .before .before .before .before .before .can-throw .ensures) (c .before .before .before .before .before .before .before .before .before .before .before .before .before .before .thrown .given .1 ∙ ap thrown.Found (c .before .before .before .before .before .before .before .before .before .before .before .throw .given .1)))))
 
 price-requires-7 : tie.Need-price-requires-7 Inv-loop μ-loop
-price-requires-7 c κs = c .before .before .before .before .before .before .before .before .before .before .before .before .before .before .before .before .before .before .before .before .before .before .before .before .before .before .before .before .loop .inv .1 .0
+price-requires-7 c κs = c .before .before .before .before .before .before .before .before .before .before .before .before .before .before .before .before .before .before .before .before .before .before .before .before .before .before .before .before .before .before .loop .inv .1 .0
 
 counted-requires-8 : tie.Need-counted-requires-8 Inv-loop μ-loop
-counted-requires-8 c κs = ((found (c .before .before .before .before .before .before .before .before .before .before .before .before .before .before .before .before .before .before .before)) .less, ((omega (arith, (c .before .before .before .before .before .before .before .before .before .before .before .before .before .before .before .before .before .before .before .before .before .before .before .before .before .before .before .before .before .loop .inv .0) .priced, (c .before .before .before .before .before .before .before .before .before .before .before .before .before .before .before .before .before .before .before .before .before .before .before .before .before .before .before .before .before .loop .inv .0) .limit, (c .before .before .before .before .before .before .before .before .before .before .before .before .before .before .before .before .before .before .before .before .before .before .before .before .before .before .before .before .before .loop .inv .0) .left-within, (found (c .before .before .before .before .before .before .before .before .before .before .before .before .before .before .before .before .before .before .before)) .less)), omega arith))
+counted-requires-8 c κs = ((found (c .before .before .before .before .before .before .before .before .before .before .before .before .before .before .before .before .before .before .before .before .before)) .less, ((omega (arith, (c .before .before .before .before .before .before .before .before .before .before .before .before .before .before .before .before .before .before .before .before .before .before .before .before .before .before .before .before .before .before .before .loop .inv .0) .priced, (c .before .before .before .before .before .before .before .before .before .before .before .before .before .before .before .before .before .before .before .before .before .before .before .before .before .before .before .before .before .before .before .loop .inv .0) .limit, (c .before .before .before .before .before .before .before .before .before .before .before .before .before .before .before .before .before .before .before .before .before .before .before .before .before .before .before .before .before .before .before .loop .inv .0) .left-within, (found (c .before .before .before .before .before .before .before .before .before .before .before .before .before .before .before .before .before .before .before .before .before)) .less)), omega arith))
 
 loop-less-16 : tie.Need-loop-less-16 Inv-loop μ-loop
 loop-less-16 c = omega (arith, c .counted8 .ensures .1)
 
 loop-again-16 : tie.Need-loop-again-16 Inv-loop μ-loop
-loop-again-16 c = (goes (found (c .before .before .before .before .before .before .before .before .before .before .before .before .before .before .before .before .before .before .before .before)) (throw-acts (found (c .before .before .before .before .before .before .before .before .before .before .before .before .before .before .before .before .before .before .before .before)) (c .before .before .before .before .before .before .before .before .before .before .before .before .before .before .before .before .before .before .match3 .keys6)) (told saysThrown (c .before .before .before .before .before .before .before .before .before .before .before .before .before .before .before .before .can-throw .ensures) (c .before .before .before .before .before .before .before .before .before .before .before .before .before .before .thrown .given .1 ∙ ap thrown.Found (c .before .before .before .before .before .before .before .before .before .before .before .throw .given .1))) (thrown-there (found (c .before .before .before .before .before .before .before .before .before .before .before .before .before .before .before .before .before .before .before .before)) (c .before .before .before .before .before .before .before .before .before .before .before .throw .given .0 .0) (c .before .before .before .before .before .before .copy-of-p .ensures (c .before .before .before .before .before .before .before .before .before .before .before .before .before .before .before .before .before .before .before .before .before .before .before .before .before .before .before .before .before .before .loop .rows)) (c .before .before .before .before .before .before .before .before .copy-of-s2 .ensures (c .before .before .before .before .before .before .before .before .before .before .before .before .before .before .before .before .before .before .before .before .before .before .before .before .before .before .before .before .before .before .loop .rows)) (c .before .before .before .before .copy-of-r2 .ensures (c .before .before .before .before .before .before .before .before .before .before .before .before .before .before .before .before .before .before .before .before .before .before .before .before .before .before .before .before .before .before .loop .rows)) (c .before .before .throw-address .ensures (c .before .before .before .before .before .before .before .before .before .before .before .before .before .before .before .before .before .before .before .before .before .before .before .before .before .before .before .before .before .before .loop .copies))) refl (c .before .price7 .ensures .0) (c .counted8 .ensures .0), (c .before .before .before .before .before .before .before .before .before .before .before .before .before .before .before .before .before .before .before .before .before .before .before .before .before .before .before .before .before .before .loop .inv .1))
+loop-again-16 c = (goes (found (c .before .before .before .before .before .before .before .before .before .before .before .before .before .before .before .before .before .before .before .before .before .before)) (throw-acts (found (c .before .before .before .before .before .before .before .before .before .before .before .before .before .before .before .before .before .before .before .before .before .before)) (c .before .before .before .before .before .before .before .before .before .before .before .before .before .before .before .before .before .before .before .before .match3 .keys6)) (told saysThrown (c .before .before .before .before .before .before .before .before .before .before .before .before .before .before .before .before .before .before .can-throw .ensures) (c .before .before .before .before .before .before .before .before .before .before .before .before .before .before .before .before .thrown .given .1 ∙ ap thrown.Found (c .before .before .before .before .before .before .before .before .before .before .before .before .before .throw .given .1))) (thrown-there (found (c .before .before .before .before .before .before .before .before .before .before .before .before .before .before .before .before .before .before .before .before .before .before)) (c .before .before .before .before .before .before .before .before .before .before .before .before .before .throw .given .0 .0) (c .before .before .before .before .before .before .before .before .copy-of-p .ensures (c .before .before .before .before .before .before .before .before .before .before .before .before .before .before .before .before .before .before .before .before .before .before .before .before .before .before .before .before .before .before .before .before .loop .rows)) (c .before .before .before .before .before .before .before .before .before .before .copy-of-s2 .ensures (c .before .before .before .before .before .before .before .before .before .before .before .before .before .before .before .before .before .before .before .before .before .before .before .before .before .before .before .before .before .before .before .before .loop .rows)) (c .before .before .copy-of-r2 .ensures (c .before .before .before .before .before .before .before .before .before .before .before .before .before .before .before .before .before .before .before .before .before .before .before .before .before .before .before .before .before .before .before .before .loop .rows)) (c .before .before .before .before .before .before .throw-address .ensures (c .before .before .before .before .before .before .before .before .before .before .before .before .before .before .before .before .before .before .before .before .before .before .before .before .before .before .before .before .before .before .before .before .loop .copies)) ∙ held-there (c .before .before .before .before .note .ensures (c .before .before .before .before .before .before .before .before .before .before .before .before .before .before .before .before .before .before .before .before .before .before .before .before .before .before .before .before .before .before .before .before .loop .copies) (c .before .before .before .before .before .before .before .before .before .before .before .before .before .before .before .before .before .before .before .before .before .before .before .before .before .before .before .before .before .before .before .before .loop .inv .1 .1))) refl (c .before .price7 .ensures .0) (c .counted8 .ensures .0), (c .before .before .before .before .before .before .before .before .before .before .before .before .before .before .before .before .before .before .before .before .before .before .before .before .before .before .before .before .before .before .before .before .loop .inv .1 .0, (c .before .before .before .before .note .ensures (c .before .before .before .before .before .before .before .before .before .before .before .before .before .before .before .before .before .before .before .before .before .before .before .before .before .before .before .before .before .before .before .before .loop .copies) (c .before .before .before .before .before .before .before .before .before .before .before .before .before .before .before .before .before .before .before .before .before .before .before .before .before .before .before .before .before .before .before .before .loop .inv .1 .1)) .laid))
 
 reach-requires : tie.Need-reach-requires Inv-loop μ-loop
 reach-requires c κs = (omega arith, ((c .before .before .before .before .before .before .before .before .before .before .before .before .before .loop .inv .0) .p-within, c .before .before .before .before .before .before .before .before .before .before .before .before .before .before .before .pre .bounded .shared-within))
@@ -1097,13 +1100,14 @@ rounds-spec =
     enum-known-throw
     copy-of-s-requires-2
     copy-of-p-requires
+    throw-address-requires
     mul-cells-5
     element-write-cells-3
+    note-requires
     add-regs-7
     add-copy-of-r
     copy-of-r-requires-2
     sub-regs-5
-    throw-address-requires
     price-requires-7
     counted-requires-8
     loop-less-16

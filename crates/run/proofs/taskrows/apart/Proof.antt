@@ -1,4 +1,4 @@
--- Made by .ci/named from apart.rules: 76b2eb110225f6b2 ace338fd3e092bb8
+-- Made by .ci/named from apart.rules: 995a6708c5695fd2 d176e8e63bc39418
 -- Before pass t the first t machines are written.
 use mathlib.Core.Path.{refl}
 use Prim.Native.Nat.{_-_}
@@ -50,7 +50,7 @@ index-1-apart-2 : tie.Need-index-1-apart-2 Inv-loop μ-loop
 index-1-apart-2 c = search needs
 
 apart-requires : tie.Need-apart-requires Inv-loop μ-loop
-apart-requires c κs = c .before .before .before .before .before .before .before .loop .inv .seats .laid (c .before .before .before .before .before .before .before .loop .t) (omega (arith, c .before .before .before .before .before .before .loop-test .taken))
+apart-requires c κs = c .before .before .before .before .before .before .before .before .loop .inv .seats .laid (c .before .before .before .before .before .before .before .before .loop .t) (omega (arith, c .before .before .before .before .before .before .before .loop-test .taken))
 
 pointers-requires : tie.Need-pointers-requires Inv-loop μ-loop
 pointers-requires c κs = search needs
@@ -68,7 +68,7 @@ loop-less : tie.Need-loop-less Inv-loop μ-loop
 loop-less c = search needs
 
 loop-again : tie.Need-loop-again Inv-loop μ-loop
-loop-again c = apart-next (c .before .before .before .before .before .before .before .before .before .before .args .t1) (c .before .before .before .before .before .before .before .before .before .loop .cells) (c .before .before .before .before .before .before .before .before .before .loop .returns) (c .before .before .before .before .before .before .before .before .before .loop .rows) (c .before .before .before .before .before .before .before .before .before .loop .copies) (c .before .before .before .before .before .before .before .before .before .loop .saved) (c .before .before .before .before .before .before .before .before .before .loop .t) (c .before .before .before .before .before .before .before .before .before .loop .inv) (omega arith) (c .before .apart .last .1 .0) (c .before .apart .last .1 .1 .0) (c .pointers .result) (c .before .apart .ensures) (c .pointers .ensures)
+loop-again c = apart-next (c .before .before .before .before .before .before .before .before .before .before .before .args .t1) (c .before .before .before .before .before .before .before .before .before .before .loop .cells) (c .before .before .before .before .before .before .before .before .before .before .loop .returns) (c .before .before .before .before .before .before .before .before .before .before .loop .rows) (c .before .before .before .before .before .before .before .before .before .before .loop .copies) (c .before .before .before .before .before .before .before .before .before .before .loop .saved) (c .before .before .before .before .before .before .before .before .before .before .loop .t) (c .before .before .before .before .before .before .before .before .before .before .loop .inv) (omega arith) (c .before .apart .last .1 .1 .0) (c .before .apart .last .1 .1 .1 .0) (c .pointers .result) (c .before .apart .ensures) (c .pointers .ensures)
 
 returns : tie.Need-returns Inv-loop μ-loop
 returns c = (c .before .loop .inv .seats, apart-all (c .before .before .args .t1) (c .before .loop .cells) (c .before .loop .returns) (c .before .loop .rows) (c .before .loop .copies) (c .before .loop .saved) (c .before .loop .t) (c .before .loop .inv) (omega arith))

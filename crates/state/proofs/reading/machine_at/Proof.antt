@@ -1,4 +1,4 @@
--- Made by .ci/named from machine_at.rules: d77f6a53d28151c5 dc1ed3398994ebc1
+-- Made by .ci/named from machine_at.rules: 77d3356c2acee034 8988d2f81c69e9d3
 -- The fields of a machine stand one after the other, in whatever order they are read.
 use Rattle.state.specs.Layout.{stateFields}
 use Rattle.state.specs.Laws.Sound.{_and_}
@@ -31,6 +31,18 @@ add-cell-at-2 c = search needs
 cell-at-requires-2 : tie.Need-cell-at-requires-2
 cell-at-requires-2 c κs = search needs
 
+add-cell-at-3 : tie.Need-add-cell-at-3
+add-cell-at-3 c = search needs
+
+cell-at-requires-3 : tie.Need-cell-at-requires-3
+cell-at-requires-3 c κs = search needs
+
+add-cell-at-4 : tie.Need-add-cell-at-4
+add-cell-at-4 c = search needs
+
+cell-at-requires-4 : tie.Need-cell-at-requires-4
+cell-at-requires-4 c κs = search needs
+
 add-links-at : tie.Need-add-links-at
 add-links-at c = search needs
 
@@ -38,7 +50,7 @@ links-at-requires : tie.Need-links-at-requires
 links-at-requires c κs = search needs
 
 returns : tie.Need-returns
-returns c = fields-stand stateFields (c .before .before .before .before .before .before .before .before .args .state .now) (c .before .before .before .before .before .before .before .before .args .at) _ (c .before .before .before .before .before .fill .ensures and c .before .before .before .pointer-at .ensures and c .links-at .ensures and c .before .before .cell-at .ensures and c .before .cell-at2 .ensures and tt)
+returns c = fields-stand stateFields (c .before .before .before .before .before .before .before .before .before .before .args .state .now) (c .before .before .before .before .before .before .before .before .before .before .args .at) _ (c .before .before .before .before .before .before .before .fill .ensures and c .before .before .before .before .before .pointer-at .ensures and c .links-at .ensures and c .before .before .before .before .cell-at .ensures and c .before .before .before .cell-at2 .ensures and c .before .before .cell-at3 .ensures and c .before .cell-at4 .ensures and tt)
 
 pub machine-at-spec : {M : Type 1} → statement M
 machine-at-spec =
@@ -52,6 +64,10 @@ machine-at-spec =
     cell-at-requires
     add-cell-at-2
     cell-at-requires-2
+    add-cell-at-3
+    cell-at-requires-3
+    add-cell-at-4
+    cell-at-requires-4
     add-links-at
     links-at-requires
     returns)

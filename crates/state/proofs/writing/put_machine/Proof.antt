@@ -1,4 +1,4 @@
--- Made by .ci/named from put_machine.rules: ce2f38dca7d09071 23a9dca479e6e322
+-- Made by .ci/named from put_machine.rules: ce2f38dca7d09071 e15cc02d9c849d46
 -- Each field of a machine is put where the one before it ends.
 use Rattle.links.specs.Depths.{cellsDepth}
 use Rattle.state.specs.Layout.{stateFields}
@@ -37,11 +37,23 @@ add-put-cell-2 c = search needs
 put-cell-requires-2 : tie.Need-put-cell-requires-2
 put-cell-requires-2 c κs = search needs
 
+add-put-cell-3 : tie.Need-add-put-cell-3
+add-put-cell-3 c = search needs
+
+put-cell-requires-3 : tie.Need-put-cell-requires-3
+put-cell-requires-3 c κs = search needs
+
+add-put-cell-4 : tie.Need-add-put-cell-4
+add-put-cell-4 c = search needs
+
+put-cell-requires-4 : tie.Need-put-cell-requires-4
+put-cell-requires-4 c κs = search needs
+
 same-length : tie.Need-same-length
 same-length c = search needs
 
 returns : tie.Need-returns
-returns c = fields-put stateFields (c .before .before .before .before .before .before .before .before .before .before .before .before .before .before .before .before .before .before .before .before .before .before .before .before .args .machine) (c .before .before .before .before .before .before .before .before .before .before .before .before .before .before .before .before .before .before .before .before .before .before .before .before .args .state .now) (c .before .before .before .before .before .before .before .before .before .before .before .before .before .before .before .before .before .before .before .before .before .before .before .before .args .at) _ (put-counted cellsDepth (c .before .before .before .before .before .before .before .before .before .before .before .before .before .before .before .before .before .before .before .before .before .before .before .before .args .machine .cells) (slice-aggregate-put-array (c .before .before .before .before .before .before .before .before .before .before .before .before .before .before .before .before .before .before .before)) (c .before .before .before .before .before .before .before .before .before .before .before .before .before .before .before .before .before .before .put-array .ensures) first c .before .before .before .before .before .before .before .before .before .before .before .before .before .before .put-pointer .ensures then c .before .before .before .before .before .before .before .before .before .before .put-links .ensures then c .before .before .before .before .before .before .put-cell .ensures then c .before .before .put-cell2 .ensures then none)
+returns c = fields-put stateFields (c .before .before .before .before .before .before .before .before .before .before .before .before .before .before .before .before .before .before .before .before .before .before .before .before .before .before .before .before .before .before .before .before .before .args .machine) (c .before .before .before .before .before .before .before .before .before .before .before .before .before .before .before .before .before .before .before .before .before .before .before .before .before .before .before .before .before .before .before .before .before .args .state .now) (c .before .before .before .before .before .before .before .before .before .before .before .before .before .before .before .before .before .before .before .before .before .before .before .before .before .before .before .before .before .before .before .before .before .args .at) _ (put-counted cellsDepth (c .before .before .before .before .before .before .before .before .before .before .before .before .before .before .before .before .before .before .before .before .before .before .before .before .before .before .before .before .before .before .before .before .before .args .machine .cells) (slice-aggregate-put-array (c .before .before .before .before .before .before .before .before .before .before .before .before .before .before .before .before .before .before .before .before .before .before .before .before .before .before .before)) (c .before .before .before .before .before .before .before .before .before .before .before .before .before .before .before .before .before .before .before .before .before .before .before .before .before .before .put-array .ensures) first c .before .before .before .before .before .before .before .before .before .before .before .before .before .before .before .before .before .before .before .before .before .before .put-pointer .ensures then c .before .before .before .before .before .before .before .before .before .before .before .before .before .before .before .before .before .before .put-links .ensures then c .before .before .before .before .before .before .before .before .before .before .before .before .before .before .put-cell .ensures then c .before .before .before .before .before .before .before .before .before .before .put-cell2 .ensures then c .before .before .before .before .before .before .put-cell3 .ensures then c .before .before .put-cell4 .ensures then none)
 
 pub put-machine-spec : {M : Type 1} → statement M
 put-machine-spec =
@@ -57,5 +69,9 @@ put-machine-spec =
     put-cell-requires
     add-put-cell-2
     put-cell-requires-2
+    add-put-cell-3
+    put-cell-requires-3
+    add-put-cell-4
+    put-cell-requires-4
     same-length
     returns)
