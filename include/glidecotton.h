@@ -25,8 +25,9 @@ enum {
     GLIDECOTTON_QUANTUM = 1000,        /* the greatest quantum of steps; the least is 1 */
     GLIDECOTTON_SHARED = 16384,        /* bytes of memory that all tasks share, from address 0; their own parts follow in order */
     GLIDECOTTON_PART = 4096,           /* bytes of a task's own part */
-    GLIDECOTTON_RESULT = 24,           /* bytes of a run's result */
-    GLIDECOTTON_READ_RESULT = 8,       /* bytes of the reader's result */
+    GLIDECOTTON_RESULT = 32,           /* bytes of a run's result */
+    GLIDECOTTON_READ_RESULT = 16,      /* bytes of the reader's result */
+    GLIDECOTTON_MOST_SUM = 8355840,    /* the greatest memory sum that a run takes: that of a memory of which every byte is 255 */
     GLIDECOTTON_STACK = 16384,         /* bytes of stack that are enough for a call, but of tasks; rust/stack measures it. On x86-64 a run of
                                           a state takes 15,792 at the most, a bench 4,624 and a read 3,792 */
     GLIDECOTTON_TASKS_STACK = 98304    /* and for a call of glidecotton_run_tasks, which holds four machines; on x86-64 it takes
@@ -61,22 +62,32 @@ enum {
 enum {
     GLIDECOTTON_ANSWER = 0,      /* the answer of document 01: 0 to 13; of a run of tasks 0, 1 or 2 */
     GLIDECOTTON_STEPS = 8,       /* instructions that this run completed, those of all tasks together */
-    GLIDECOTTON_CYCLES = 16      /* their clock cycles */
+    GLIDECOTTON_CYCLES = 16,     /* their clock cycles */
+    GLIDECOTTON_SUM = 24         /* the memory sum after the run, for the next run; with answer 2 the sum given, in all its 64 bits */
 };
 
 /* Where the reader's result has what, 8 bytes each. */
 enum {
-    GLIDECOTTON_READ_BUDGET = 0  /* the image's budget, or the default where it gives none: 0 to GLIDECOTTON_BUDGET */
+    GLIDECOTTON_READ_BUDGET = 0, /* the image's budget, or the default where it gives none: 0 to GLIDECOTTON_BUDGET */
+    GLIDECOTTON_READ_SUM = 8     /* the memory sum, for the first run: 0 to GLIDECOTTON_MOST_SUM */
 };
 
-/* Reads an image, runs it and writes the bench program's text.
+/* The memory sum is what all bytes of memory add up to. It stands beside the memory, in no byte of a state or a task. No run adds up the
+   memory: what it hands back, unless it answers 2, is the sum given, plus what the bytes add up to afterwards, less what they added up to
+   before, modulo 2^32.
+   The host hands each run the sum that it had from the reader or the run before, together with the memory that it had then. Handed on so,
+   both unaltered, a sum is always the memory's true one, and never refused. A host that alters memory itself adds the change to the sum.
+   A sum above GLIDECOTTON_MOST_SUM is refused with answer 2, and all is handed back as it was. Of any other that is not the true one only
+   the equation holds: it stays as wrong as it was. Nothing else that a run does depends on the sum. */
+
+/* Reads an image, runs it and writes the bench program's text. Takes and gives no memory sum.
    memory: GLIDECOTTON_MEMORY bytes. out: GLIDECOTTON_TEXT bytes always suffice.
    Returns how many bytes of out the text takes; the rest of out is untouched. A text is never 2 bytes long.
    Returns 2 with out untouched where memory has another length, which is then untouched too, or where the text does not fit: then
    the image has been run and memory is as the run left it. A refused image gives the text "14" and leaves memory untouched. */
 uint64_t glidecotton_bench(const uint8_t *image, size_t image_len, uint8_t *memory, size_t memory_len, uint8_t *out, size_t out_len);
 
-/* Reads an image for runs of the host's own: fills memory and state, and writes the image's budget to the result.
+/* Reads an image for runs of the host's own: fills memory and state, and writes the image's budget and the memory sum to the result.
    Returns 0 where the image was read: every byte of the three buffers is then written, whatever they held.
    Returns 2 where memory_len is not GLIDECOTTON_MEMORY, state_len not GLIDECOTTON_STATE or result_len not GLIDECOTTON_READ_RESULT,
    and else 14 where the image is not as document 01 says. After 2 and 14 all is untouched. */
@@ -84,22 +95,25 @@ uint64_t glidecotton_read_image(const uint8_t *image, size_t image_len, uint8_t 
                                 size_t state_len, uint8_t *result, size_t result_len);
 
 /* Runs a machine held as bytes for at most budget steps, and hands it back in the same bytes, ready for the next run.
-   Returns 0 with the result written. Answer 2 in it (a memory of another length, a budget above GLIDECOTTON_BUDGET or a state that
-   is not well formed) comes with no steps and no cycles, and with state and memory untouched.
+   sum: the memory sum, as the reader or the run before handed it out.
+   Returns 0 with the result written. Answer 2 in it (a memory of another length, a budget above GLIDECOTTON_BUDGET, a sum above
+   GLIDECOTTON_MOST_SUM or a state that is not well formed) comes with no steps and no cycles, with the sum that was given, and with state
+   and memory untouched.
    Returns 2 with all untouched where state_len is not GLIDECOTTON_STATE or result_len not GLIDECOTTON_RESULT. */
 uint64_t glidecotton_run_state(uint8_t *state, size_t state_len, uint8_t *memory, size_t memory_len, uint64_t budget,
-                               uint8_t *result, size_t result_len);
+                               uint64_t sum, uint8_t *result, size_t result_len);
 
 /* Runs four tasks on one memory, in turns of at most quantum steps and for at most budget steps together, and hands them back in the
    same bytes, ready for the next run. Task 0 has the first turn, or the next task that is ready.
+   sum: the memory sum, as the reader or the run before handed it out. One sum serves all four tasks: the stores of each are in it.
    Returns 0 with the result written. Answer 1 in it says that the budget is spent, and else 0 that no task is ready. Answer 2 (a memory
-   of another length, a budget above GLIDECOTTON_BUDGET, a quantum that is not 1 to GLIDECOTTON_QUANTUM, a task whose state is not well
-   formed, whether it is ready or not, or that keeps another number than it can) comes with no steps and no cycles, and with tasks and
-   memory untouched.
+   of another length, a budget above GLIDECOTTON_BUDGET, a quantum that is not 1 to GLIDECOTTON_QUANTUM, a sum above GLIDECOTTON_MOST_SUM,
+   a task whose state is not well formed, whether it is ready or not, or that keeps another number than it can) comes with no steps and
+   no cycles, with the sum that was given, and with tasks and memory untouched.
    Returns 2 with all untouched where tasks_len is not GLIDECOTTON_TASKS or result_len not GLIDECOTTON_RESULT.
    A budget should be longer than the quantum: each run starts with task 0 again, so else a task 0 that neither pauses nor leaves is the
    only one that moves. */
 uint64_t glidecotton_run_tasks(uint8_t *tasks, size_t tasks_len, uint8_t *memory, size_t memory_len, uint64_t quantum,
-                               uint64_t budget, uint8_t *result, size_t result_len);
+                               uint64_t budget, uint64_t sum, uint8_t *result, size_t result_len);
 
 #endif

@@ -37,6 +37,7 @@ fn main() {
             PLAIN,
             &[
                 "-Dplain_bench=glidecotton_bench",
+                "-Dplain_read_image=glidecotton_read_image",
                 "-Dplain_run_state=glidecotton_run_state",
                 "-Dplain_run_tasks=glidecotton_run_tasks",
             ],

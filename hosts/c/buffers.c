@@ -24,9 +24,18 @@ void show_state(const uint8_t *state) {
 }
 
 struct counted counted_in(const uint8_t *result) {
-    return (struct counted){pointer(result, GLIDECOTTON_ANSWER), pointer(result, GLIDECOTTON_STEPS), pointer(result, GLIDECOTTON_CYCLES)};
+    return (struct counted){pointer(result, GLIDECOTTON_ANSWER), pointer(result, GLIDECOTTON_STEPS), pointer(result, GLIDECOTTON_CYCLES),
+                            pointer(result, GLIDECOTTON_SUM)};
 }
 
 struct counted after(struct counted before, struct counted now) {
-    return (struct counted){now.answer, before.steps + now.steps, before.cycles + now.cycles};
+    return (struct counted){now.answer, before.steps + now.steps, before.cycles + now.cycles, now.sum};
 }
+
+static uint64_t added_up(const uint8_t *memory) {
+    uint64_t sum = 0;
+    for (size_t i = 0; i < GLIDECOTTON_MEMORY; i++) sum += memory[i];
+    return sum;
+}
+
+void show_sum(uint64_t sum, const uint8_t *memory) { printf("  sum %" PRIu64 " %" PRIu64 "\n", sum, added_up(memory)); }

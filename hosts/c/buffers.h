@@ -1,4 +1,4 @@
-/* What stands in the buffers that a host lends: numbers of some bytes, the highest first, and what a run counted. */
+/* What stands in the buffers that a host lends: numbers of some bytes, the highest first, what a run counted, and the memory's bytes. */
 
 #ifndef BUFFERS_H
 #define BUFFERS_H
@@ -6,7 +6,7 @@
 #include "glidecotton.h"
 
 struct counted {
-    uint64_t answer, steps, cycles;
+    uint64_t answer, steps, cycles, sum;
 };
 
 uint64_t number_at(const uint8_t *bytes, size_t width);
@@ -22,7 +22,10 @@ void show_state(const uint8_t *state);
 
 struct counted counted_in(const uint8_t *result);
 
-/* What this run answers, with the steps and cycles of those before it added. */
+/* What this run answers, with the steps and cycles of those before it added, and the memory sum that it leaves. */
 struct counted after(struct counted before, struct counted now);
+
+/* Prints a memory sum that was handed out, and what the bytes add up to afresh. This is for comparison: a host needs the first alone. */
+void show_sum(uint64_t sum, const uint8_t *memory);
 
 #endif

@@ -17,6 +17,9 @@ uint64_t read_image(const struct file *file, struct image *image) {
     uint8_t result[GLIDECOTTON_READ_RESULT];
     uint64_t answer = glidecotton_read_image(file->bytes, file->length, image->memory, sizeof image->memory, image->state,
                                              sizeof image->state, result, sizeof result);
-    if (answer == 0) image->budget = number_at(result + GLIDECOTTON_READ_BUDGET, 8);
+    if (answer == 0) {
+        image->budget = pointer(result, GLIDECOTTON_READ_BUDGET);
+        image->sum = pointer(result, GLIDECOTTON_READ_SUM);
+    }
     return answer;
 }

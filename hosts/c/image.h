@@ -13,7 +13,7 @@ struct file {
 struct image {
     uint8_t memory[GLIDECOTTON_MEMORY];
     uint8_t state[GLIDECOTTON_STATE];
-    uint64_t budget;
+    uint64_t budget, sum;
 };
 
 /* Whether the file could be read. Of a file that is longer than every good image one byte more is kept, so that it is refused. */

@@ -1,11 +1,13 @@
 /* A host: runs an image in slices of a given number of steps, and shows the machine after each slice.
 
    slices IMAGE-FILE STEPS prints the bench program's line after each slice, with all steps and cycles so far, and after the last
-   one the parameter cells too. With one slice that is what the bench program prints. */
+   one the parameter cells too. With one slice that is what the bench program prints. slices --sums IMAGE-FILE STEPS also prints the
+   memory sum, before the first slice and below the line of each. */
 
 #include <inttypes.h>
 #include <stdio.h>
 #include <stdlib.h>
+#include <string.h>
 
 #include "buffers.h"
 #include "glidecotton.h"
@@ -21,20 +23,22 @@ static void show_cells(const uint8_t *state) {
     for (uint64_t i = 0; i < depth; i++) printf("%08" PRIX64 "\n", cell(state, GLIDECOTTON_CELLS + 4 * i));
 }
 
-/* One call of the library; the state is ready for the next call. */
-static struct counted run_slice(uint8_t *state, uint8_t *memory, uint64_t steps) {
+/* One call of the library; the state is ready for the next call, which is given the sum that this one leaves. */
+static struct counted run_slice(uint8_t *state, uint8_t *memory, uint64_t steps, uint64_t sum) {
     uint8_t result[GLIDECOTTON_RESULT];
-    if (glidecotton_run_state(state, GLIDECOTTON_STATE, memory, GLIDECOTTON_MEMORY, steps, result, sizeof result) != 0) abort();
+    if (glidecotton_run_state(state, GLIDECOTTON_STATE, memory, GLIDECOTTON_MEMORY, steps, sum, result, sizeof result) != 0) abort();
     return counted_in(result);
 }
 
 /* Slices until the machine stops by itself or the image's own budget is spent. */
-static void run_all(struct image *image, uint64_t slice) {
-    struct counted all = {0, 0, 0};
+static void run_all(struct image *image, uint64_t slice, int sums) {
+    struct counted all = {0, 0, 0, image->sum};
+    if (sums) show_sum(all.sum, image->memory);
     for (;;) {
         uint64_t left = image->budget - all.steps;
-        all = after(all, run_slice(image->state, image->memory, slice < left ? slice : left));
+        all = after(all, run_slice(image->state, image->memory, slice < left ? slice : left, all.sum));
         show_line(all, image->state);
+        if (sums) show_sum(all.sum, image->memory);
         if (all.answer != 1 || all.steps == image->budget) break;
     }
     show_cells(image->state);
@@ -49,13 +53,16 @@ int main(int words, char **word) {
     static struct file file;
     static struct image image;
     char *end;
-    if (words != 3) return fail("usage", "slices IMAGE-FILE STEPS");
+    int sums = words > 1 && strcmp(word[1], "--sums") == 0;
+    words -= sums;
+    word += sums;
+    if (words != 3) return fail("usage", "slices [--sums] IMAGE-FILE STEPS");
     uint64_t slice = strtoull(word[2], &end, 10);
     if (*end || slice < 1 || slice > GLIDECOTTON_BUDGET) return fail(word[2], "a slice is 1 to 1000000 steps");
     if (!read_file(word[1], &file)) return fail(word[1], "can't be read");
 
     uint64_t refusal = read_image(&file, &image);
     if (refusal != 0) printf("%" PRIu64 "\n", refusal);
-    else run_all(&image, slice);
+    else run_all(&image, slice, sums);
     return fflush(stdout) == 0 && !ferror(stdout) ? 0 : fail("standard output", "can't be written");
 }

@@ -1,9 +1,9 @@
 /* A host: runs a position word and a log word together, as tasks 0 and 1 on one memory, and shows both after each run.
 
    tasks IMAGE-FILE QUANTUM STEPS lends the tasks so many steps a run, in turns of at most a quantum, until no task is ready or the
-   image's own budget is spent. After each run it prints the answer, and all steps and cycles so far; then for each word the number that its
-   task keeps, its counter, P, R, S and E, and the address and code of its last throw. At the end it prints what the words have left in their
-   own parts. */
+   image's own budget is spent. First it prints the memory sum. After each run it prints the answer, and all steps and cycles so far; the
+   memory sum; then for each word the number that its task keeps, its counter, P, R, S and E, and the address and code of its last throw. At
+   the end it prints what the words have left in their own parts. */
 
 #include <inttypes.h>
 #include <stdio.h>
@@ -44,21 +44,23 @@ static void show_parts(const uint8_t *memory) {
     printf("\n");
 }
 
-/* One call of the library; the tasks are ready for the next call. */
-static struct counted run_once(uint8_t *tasks, uint8_t *memory, uint64_t quantum, uint64_t steps) {
+/* One call of the library; the tasks are ready for the next call, which is given the sum that this one leaves. */
+static struct counted run_once(uint8_t *tasks, uint8_t *memory, uint64_t quantum, uint64_t steps, uint64_t sum) {
     uint8_t result[GLIDECOTTON_RESULT];
-    if (glidecotton_run_tasks(tasks, GLIDECOTTON_TASKS, memory, GLIDECOTTON_MEMORY, quantum, steps, result, sizeof result) != 0) abort();
+    if (glidecotton_run_tasks(tasks, GLIDECOTTON_TASKS, memory, GLIDECOTTON_MEMORY, quantum, steps, sum, result, sizeof result) != 0) abort();
     return counted_in(result);
 }
 
 static void run_all(struct image *image, uint64_t quantum, uint64_t steps) {
     static uint8_t tasks[GLIDECOTTON_TASKS];
-    struct counted all = {0, 0, 0};
+    struct counted all = {0, 0, 0, image->sum}; /* one sum for all tasks, since they have one memory */
     for (int t = 0; t < USED; t++) make_ready(tasks, t);
+    show_sum(all.sum, image->memory);
     do {
         uint64_t left = image->budget - all.steps;
-        all = after(all, run_once(tasks, image->memory, quantum, steps < left ? steps : left));
+        all = after(all, run_once(tasks, image->memory, quantum, steps < left ? steps : left, all.sum));
         printf("%" PRIu64 " %" PRIu64 " %" PRIu64 "\n", all.answer, all.steps, all.cycles);
+        show_sum(all.sum, image->memory);
         for (int t = 0; t < USED; t++) show_task(tasks, t);
     } while (all.answer == 1 && all.steps < image->budget);
     show_parts(image->memory);

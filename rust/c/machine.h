@@ -19,7 +19,8 @@ enum {
     MAX_BUDGET = 1000000,
     DEFAULT_BUDGET = 250000,
     STATE_BYTES = 3536,
-    RESULT_BYTES = 24,
+    RESULT_BYTES = 32,
+    READ_RESULT_BYTES = 16,
     TEXT_BYTES = 800
 };
 
@@ -57,8 +58,9 @@ struct machine {
     uint32_t thrown_code;
 };
 
+/* Sum is 64 bits wide because a run that is refused hands back what a host handed in. */
 struct outcome {
-    uint64_t answer, steps, cycles;
+    uint64_t answer, steps, cycles, sum;
 };
 
 static const uint8_t CYCLES[63] = {
@@ -72,18 +74,6 @@ static uint32_t get16(const uint8_t *b) { return (uint32_t)b[0] << 8 | b[1]; }
 
 static uint32_t get32(const uint8_t *b) {
     return (uint32_t)b[0] << 24 | (uint32_t)b[1] << 16 | (uint32_t)b[2] << 8 | b[3];
-}
-
-static void put16(uint8_t *b, uint32_t v) {
-    b[0] = (uint8_t)(v >> 8);
-    b[1] = (uint8_t)v;
-}
-
-static void put32(uint8_t *b, uint32_t v) {
-    b[0] = (uint8_t)(v >> 24);
-    b[1] = (uint8_t)(v >> 16);
-    b[2] = (uint8_t)(v >> 8);
-    b[3] = (uint8_t)v;
 }
 
 /* The cell with this byte of those in view. */

@@ -16,7 +16,7 @@ static const uint8_t *section(const uint8_t *image, size_t length, size_t *at, u
 }
 
 /* Judges the whole file before the first byte of memory is written. */
-static int read_image(const uint8_t *image, size_t length, uint8_t *mem, struct machine *m, uint64_t *budget) {
+static int read_image(const uint8_t *image, size_t length, uint8_t *mem, struct machine *m, uint64_t *budget, uint64_t *sum) {
     size_t at = 0;
     uint64_t bytes, cells, budgets;
     const uint8_t *code = section(image, length, &at, 1, &bytes);
@@ -30,6 +30,7 @@ static int read_image(const uint8_t *image, size_t length, uint8_t *mem, struct 
 
     memcpy(mem, code, bytes);
     memset(mem + bytes, 0, MEMORY - bytes);
+    *sum = sum_of(code, bytes);
     memset(m, 0, sizeof *m);
     for (uint64_t i = 0; i < cells; i++) m->param[i] = get32(stack + 4 * i);
     m->p = cells;
@@ -68,11 +69,11 @@ static char *report(char *to, const struct machine *m, struct outcome o) {
 uint64_t plain_bench(const uint8_t *image, size_t image_len, uint8_t *memory, size_t memory_len, uint8_t *out,
                      size_t out_len) {
     struct machine m;
-    uint64_t budget;
+    uint64_t budget, sum;
     char text[TEXT_BYTES], *end;
     if (memory_len != MEMORY) return 2;
-    if (read_image(image, image_len, memory, &m, &budget)) {
-        struct outcome o = run(&m, memory, budget);
+    if (read_image(image, image_len, memory, &m, &budget, &sum)) {
+        struct outcome o = run(&m, memory, budget, sum);
         end = report(text, &m, o);
     } else {
         end = decimal(text, 14, '\n');
@@ -149,17 +150,31 @@ static void write_result(struct outcome o, uint8_t *at) {
     give(&at, 8, o.answer);
     give(&at, 8, o.steps);
     give(&at, 8, o.cycles);
+    give(&at, 8, o.sum);
+}
+
+/* Reads an image into a memory and a state; 2 or 14 with nothing touched where a buffer has another length, or the image is not good. */
+uint64_t plain_read_image(const uint8_t *image, size_t image_len, uint8_t *memory, size_t memory_len, uint8_t *state,
+                          size_t state_len, uint8_t *result, size_t result_len) {
+    struct machine m;
+    uint64_t budget, sum;
+    if (memory_len != MEMORY || state_len != STATE_BYTES || result_len != READ_RESULT_BYTES) return 2;
+    if (!read_image(image, image_len, memory, &m, &budget, &sum)) return 14;
+    write_state(&m, state);
+    give(&result, 8, budget);
+    give(&result, 8, sum);
+    return 0;
 }
 
 /* Runs a state handed in as bytes; 2 with nothing touched where state or result has another length. */
 uint64_t plain_run_state(uint8_t *state, size_t state_len, uint8_t *memory, size_t memory_len, uint64_t budget,
-                         uint8_t *result, size_t result_len) {
+                         uint64_t sum, uint8_t *result, size_t result_len) {
     struct machine m;
-    struct outcome o = {2, 0, 0};
+    struct outcome o = {2, 0, 0, sum};
     if (state_len != STATE_BYTES || result_len != RESULT_BYTES) return 2;
     read_state(&m, state);
-    if (memory_len == MEMORY && budget <= MAX_BUDGET && well_formed(&m)) {
-        o = run(&m, memory, budget);
+    if (memory_len == MEMORY && budget <= MAX_BUDGET && sum <= MOST_SUM && well_formed(&m)) {
+        o = run(&m, memory, budget, sum);
         write_state(&m, state);
     }
     write_result(o, result);
@@ -182,14 +197,14 @@ static void write_task(const struct task *task, uint8_t *at) {
 
 /* Runs four tasks handed in as bytes; 2 with nothing touched where tasks or result have another length. */
 uint64_t plain_run_tasks(uint8_t *bytes, size_t bytes_len, uint8_t *memory, size_t memory_len, uint64_t quantum,
-                         uint64_t budget, uint8_t *result, size_t result_len) {
+                         uint64_t budget, uint64_t sum, uint8_t *result, size_t result_len) {
     struct task tasks[TASKS];
-    struct outcome o = {2, 0, 0};
+    struct outcome o = {2, 0, 0, sum};
     if (bytes_len != TASKS * TASK_BYTES || result_len != RESULT_BYTES) return 2;
-    int good = memory_len == MEMORY && budget <= MAX_BUDGET && quantum >= 1 && quantum <= MAX_QUANTUM;
+    int good = memory_len == MEMORY && budget <= MAX_BUDGET && sum <= MOST_SUM && quantum >= 1 && quantum <= MAX_QUANTUM;
     for (int t = 0; t < TASKS; t++) good &= read_task(&tasks[t], bytes + t * TASK_BYTES);
     if (good) {
-        o = run_tasks(tasks, memory, quantum, budget);
+        o = run_tasks(tasks, memory, quantum, budget, sum);
         for (int t = 0; t < TASKS; t++) write_task(&tasks[t], bytes + t * TASK_BYTES);
     }
     write_result(o, result);

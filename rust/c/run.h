@@ -5,6 +5,7 @@
 #define RUN_H
 
 #include "machine.h"
+#include "sum.h"
 
 /* The bytes that a task may touch: those before an address, and the part that begins at another. */
 struct reach {
@@ -46,7 +47,7 @@ struct reach {
 #define STORE(bytes, in_memory, in_view) do { \
         TAKES(2); \
         uint32_t a = TOP; \
-        ACCESS(bytes, in_memory, in_view); \
+        ACCESS(bytes, sum += in_memory, in_view); \
         p -= 2; \
     } while (0)
 #define TRUTH(condition) ((condition) ? 0xFFFFFFFFu : 0u)
@@ -59,6 +60,7 @@ static inline __attribute__((always_inline)) uint64_t instructions(struct machin
     uint32_t pc = m->pc, flag = m->flag, next;
     uint64_t p = m->p, r = m->r, s = m->s, e = m->e;
     uint64_t steps = counts->steps, cycles = counts->cycles, answer;
+    uint32_t sum = (uint32_t)counts->sum;
 
     for (;;) {
         if (steps == budget) REFUSE(1);
@@ -218,7 +220,7 @@ static inline __attribute__((always_inline)) uint64_t instructions(struct machin
         case 0x2F: FETCH(2, get16(mem + a), get_in_view(m, s, e, at, 2)); break;
         case 0x30: STORE(2, put16(mem + a, SECOND), put_in_view(m, s, e, at, 2, SECOND)); break;
         case 0x31: FETCH(1, mem[a], get8_in_view(m, s, e, at)); break;
-        case 0x32: STORE(1, mem[a] = (uint8_t)SECOND, put8_in_view(m, s, e, at, SECOND)); break;
+        case 0x32: STORE(1, put8(mem + a, SECOND), put8_in_view(m, s, e, at, SECOND)); break;
         case 0x33: TAKES(1); if (TOP != 0) { ROOM(); param[p] = TOP; p++; } break;
         case 0x34: BYTES(2); ROOM(); param[p++] = mem[pc + 1]; break;
         case 0x35: BYTES(3); ROOM(); param[p++] = get16(mem + pc + 1); break;
@@ -266,11 +268,12 @@ stop:
     m->e = e;
     counts->steps = steps;
     counts->cycles = cycles;
+    counts->sum = sum;
     return answer;
 }
 
-static struct outcome run(struct machine *m, uint8_t *mem, uint64_t budget) {
-    struct outcome o = {0, 0, 0};
+static struct outcome run(struct machine *m, uint8_t *mem, uint64_t budget, uint64_t sum) {
+    struct outcome o = {0, 0, 0, sum};
     o.answer = instructions(m, mem, 1, (struct reach){0, 0}, &o, budget);
     return o;
 }

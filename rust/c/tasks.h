@@ -37,8 +37,8 @@ static struct task *ready_from(struct task *first) {
     return NULL;
 }
 
-static struct outcome run_tasks(struct task *tasks, uint8_t *mem, uint64_t quantum, uint64_t budget) {
-    struct outcome o = {1, 0, 0};
+static struct outcome run_tasks(struct task *tasks, uint8_t *mem, uint64_t quantum, uint64_t budget, uint64_t sum) {
+    struct outcome o = {1, 0, 0, sum};
     link_tasks(tasks);
     for (struct task *task = tasks; o.steps < budget; task = task->next) {
         task = ready_from(task);

@@ -9,45 +9,46 @@ use std::sync::Mutex;
 pub const STAND_IN: bool = cfg!(stand_in);
 
 type Bench = unsafe extern "C" fn(*const u8, usize, *mut u8, usize, *mut u8, usize) -> u64;
-type RunState = unsafe extern "C" fn(*mut u8, usize, *mut u8, usize, u64, *mut u8, usize) -> u64;
-type RunTasks = unsafe extern "C" fn(*mut u8, usize, *mut u8, usize, u64, u64, *mut u8, usize) -> u64;
+type ReadImage = unsafe extern "C" fn(*const u8, usize, *mut u8, usize, *mut u8, usize, *mut u8, usize) -> u64;
+type RunState = unsafe extern "C" fn(*mut u8, usize, *mut u8, usize, u64, u64, *mut u8, usize) -> u64;
+type RunTasks = unsafe extern "C" fn(*mut u8, usize, *mut u8, usize, u64, u64, u64, *mut u8, usize) -> u64;
 
 #[rustfmt::skip]
 extern "C" {
     fn glidecotton_bench(image: *const u8, image_len: usize, memory: *mut u8, memory_len: usize, out: *mut u8, out_len: usize) -> u64;
-    fn glidecotton_run_state(state: *mut u8, state_len: usize, memory: *mut u8, memory_len: usize, budget: u64, result: *mut u8, result_len: usize) -> u64;
-    fn glidecotton_run_tasks(tasks: *mut u8, tasks_len: usize, memory: *mut u8, memory_len: usize, quantum: u64, budget: u64, result: *mut u8, result_len: usize) -> u64;
+    fn glidecotton_read_image(image: *const u8, image_len: usize, memory: *mut u8, memory_len: usize, state: *mut u8, state_len: usize, result: *mut u8, result_len: usize) -> u64;
+    fn glidecotton_run_state(state: *mut u8, state_len: usize, memory: *mut u8, memory_len: usize, budget: u64, sum: u64, result: *mut u8, result_len: usize) -> u64;
+    fn glidecotton_run_tasks(tasks: *mut u8, tasks_len: usize, memory: *mut u8, memory_len: usize, quantum: u64, budget: u64, sum: u64, result: *mut u8, result_len: usize) -> u64;
     fn plain_bench(image: *const u8, image_len: usize, memory: *mut u8, memory_len: usize, out: *mut u8, out_len: usize) -> u64;
-    fn plain_run_state(state: *mut u8, state_len: usize, memory: *mut u8, memory_len: usize, budget: u64, result: *mut u8, result_len: usize) -> u64;
-    fn plain_run_tasks(tasks: *mut u8, tasks_len: usize, memory: *mut u8, memory_len: usize, quantum: u64, budget: u64, result: *mut u8, result_len: usize) -> u64;
-    fn painted_call(function: *const (), eight_words: *const u64, painted_with: u8, its_answer: *mut u64) -> u64;
+    fn plain_read_image(image: *const u8, image_len: usize, memory: *mut u8, memory_len: usize, state: *mut u8, state_len: usize, result: *mut u8, result_len: usize) -> u64;
+    fn plain_run_state(state: *mut u8, state_len: usize, memory: *mut u8, memory_len: usize, budget: u64, sum: u64, result: *mut u8, result_len: usize) -> u64;
+    fn plain_run_tasks(tasks: *mut u8, tasks_len: usize, memory: *mut u8, memory_len: usize, quantum: u64, budget: u64, sum: u64, result: *mut u8, result_len: usize) -> u64;
+    fn painted_call(function: *const (), nine_words: *const u64, painted_with: u8, its_answer: *mut u64) -> u64;
     static promised_stack: u64;
     static promised_tasks_stack: u64;
-}
-
-#[cfg(not(stand_in))]
-#[rustfmt::skip]
-extern "C" {
-    fn glidecotton_read_image(image: *const u8, image_len: usize, memory: *mut u8, memory_len: usize, state: *mut u8, state_len: usize, result: *mut u8, result_len: usize) -> u64;
-}
-
-/// Only the stack is asked of the reader, and of no stand-in.
-#[cfg(stand_in)]
-extern "C" fn glidecotton_read_image() -> u64 {
-    unreachable!("a stand-in has no reader")
 }
 
 /// A machine behind the boundary.
 #[derive(Clone, Copy)]
 pub struct Foreign {
     bench: Bench,
+    read_image: ReadImage,
     run_state: RunState,
     run_tasks: RunTasks,
 }
 
-pub const PROVED: Foreign =
-    Foreign { bench: glidecotton_bench, run_state: glidecotton_run_state, run_tasks: glidecotton_run_tasks };
-pub const PLAIN_C: Foreign = Foreign { bench: plain_bench, run_state: plain_run_state, run_tasks: plain_run_tasks };
+pub const PROVED: Foreign = Foreign {
+    bench: glidecotton_bench,
+    read_image: glidecotton_read_image,
+    run_state: glidecotton_run_state,
+    run_tasks: glidecotton_run_tasks,
+};
+pub const PLAIN_C: Foreign = Foreign {
+    bench: plain_bench,
+    read_image: plain_read_image,
+    run_state: plain_run_state,
+    run_tasks: plain_run_tasks,
+};
 
 impl Foreign {
     /// Runs an image; gives the length of the text in `out`, or 2 where a buffer does not suit.
@@ -58,8 +59,25 @@ impl Foreign {
         }
     }
 
+    /// Reads an image; gives 0, 14 where it is refused, or 2 where a buffer has a wrong length.
+    pub fn read_image(self, image: &[u8], memory: &mut [u8], state: &mut [u8], result: &mut [u8]) -> u64 {
+        // SAFETY: as above.
+        unsafe {
+            (self.read_image)(
+                image.as_ptr(),
+                image.len(),
+                memory.as_mut_ptr(),
+                memory.len(),
+                state.as_mut_ptr(),
+                state.len(),
+                result.as_mut_ptr(),
+                result.len(),
+            )
+        }
+    }
+
     /// Runs a state spelled in bytes; gives 0, or 2 where `state` or `result` has a wrong length.
-    pub fn run_state(self, state: &mut [u8], memory: &mut [u8], budget: u64, result: &mut [u8]) -> u64 {
+    pub fn run_state(self, state: &mut [u8], memory: &mut [u8], budget: u64, sum: u64, result: &mut [u8]) -> u64 {
         // SAFETY: as above.
         unsafe {
             (self.run_state)(
@@ -68,6 +86,7 @@ impl Foreign {
                 memory.as_mut_ptr(),
                 memory.len(),
                 budget,
+                sum,
                 result.as_mut_ptr(),
                 result.len(),
             )
@@ -75,7 +94,15 @@ impl Foreign {
     }
 
     /// Runs four tasks spelled in bytes; gives 0, or 2 where `tasks` or `result` has a wrong length.
-    pub fn run_tasks(self, tasks: &mut [u8], memory: &mut [u8], quantum: u64, budget: u64, result: &mut [u8]) -> u64 {
+    pub fn run_tasks(
+        self,
+        tasks: &mut [u8],
+        memory: &mut [u8],
+        quantum: u64,
+        budget: u64,
+        sum: u64,
+        result: &mut [u8],
+    ) -> u64 {
         // SAFETY: as above.
         unsafe {
             (self.run_tasks)(
@@ -85,6 +112,7 @@ impl Foreign {
                 memory.len(),
                 quantum,
                 budget,
+                sum,
                 result.as_mut_ptr(),
                 result.len(),
             )
@@ -113,38 +141,30 @@ pub fn promise_of_tasks() -> u64 {
 
 /// Runs an image on a stack painted with a byte, by the proved machine.
 pub fn painted_bench(paint: u8, image: &[u8], memory: &mut [u8], out: &mut [u8]) -> Painted {
-    let words = [lent(image), lent_to_write(memory), lent_to_write(out), [0, 0]];
+    let words = [lent(image), lent_to_write(memory), lent_to_write(out)];
     // SAFETY: each pointer comes with the length of its own slice, no two slices overlap, and the callee keeps none.
-    unsafe { painted(glidecotton_bench as *const (), words, paint) }
+    unsafe { painted(glidecotton_bench as *const (), &words.concat(), paint) }
 }
 
 /// Reads an image on a stack painted with a byte, by the proved reader.
 pub fn painted_read_image(paint: u8, image: &[u8], memory: &mut [u8], state: &mut [u8], result: &mut [u8]) -> Painted {
     let words = [lent(image), lent_to_write(memory), lent_to_write(state), lent_to_write(result)];
     // SAFETY: as above.
-    unsafe { painted(glidecotton_read_image as *const (), words, paint) }
+    unsafe { painted(glidecotton_read_image as *const (), &words.concat(), paint) }
 }
 
-/// Runs a state on a stack painted with a byte, by the proved machine.
-pub fn painted_run_state(paint: u8, state: &mut [u8], memory: &mut [u8], budget: u64, result: &mut [u8]) -> Painted {
-    let [result, length] = lent_to_write(result);
-    let words = [lent_to_write(state), lent_to_write(memory), [budget, result], [length, 0]];
+/// Runs a state with a budget and a sum on a stack painted with a byte, by the proved machine.
+pub fn painted_run_state(paint: u8, state: &mut [u8], memory: &mut [u8], with: [u64; 2], result: &mut [u8]) -> Painted {
+    let words = [lent_to_write(state), lent_to_write(memory), with, lent_to_write(result)];
     // SAFETY: as above.
-    unsafe { painted(glidecotton_run_state as *const (), words, paint) }
+    unsafe { painted(glidecotton_run_state as *const (), &words.concat(), paint) }
 }
 
-/// Runs four tasks on a stack painted with a byte, by the proved machine.
-pub fn painted_run_tasks(
-    paint: u8,
-    tasks: &mut [u8],
-    memory: &mut [u8],
-    quantum: u64,
-    budget: u64,
-    result: &mut [u8],
-) -> Painted {
-    let words = [lent_to_write(tasks), lent_to_write(memory), [quantum, budget], lent_to_write(result)];
+/// Runs four tasks with a quantum, a budget and a sum on a stack painted with a byte, by the proved machine.
+pub fn painted_run_tasks(paint: u8, tasks: &mut [u8], memory: &mut [u8], with: [u64; 3], result: &mut [u8]) -> Painted {
+    let words = [&lent_to_write(tasks)[..], &lent_to_write(memory), &with, &lent_to_write(result)];
     // SAFETY: as above.
-    unsafe { painted(glidecotton_run_tasks as *const (), words, paint) }
+    unsafe { painted(glidecotton_run_tasks as *const (), &words.concat(), paint) }
 }
 
 fn lent(bytes: &[u8]) -> [u64; 2] {
@@ -158,11 +178,13 @@ fn lent_to_write(bytes: &mut [u8]) -> [u64; 2] {
 /// There is one painted stack.
 static STACK: Mutex<()> = Mutex::new(());
 
-/// The function must take its part of the eight words as a C function does, and be safe to call with them.
-unsafe fn painted(function: *const (), words: [[u64; 2]; 4], paint: u8) -> Painted {
+/// The function must take these words, nine at the most, as a C function does, and be safe to call with them.
+unsafe fn painted(function: *const (), words: &[u64], paint: u8) -> Painted {
     let _alone = STACK.lock();
+    let mut nine = [0; 9];
+    nine[..words.len()].copy_from_slice(words);
     let mut answer = 0;
-    let stack = painted_call(function, words.as_flattened().as_ptr(), paint, &mut answer);
+    let stack = painted_call(function, nine.as_ptr(), paint, &mut answer);
     Painted { answer, stack }
 }
 
@@ -177,7 +199,7 @@ mod tests {
 
     fn stack_of(function: extern "C" fn(u64) -> u64, byte: u8, paint: u8) -> u64 {
         // SAFETY: the function takes one word, and every word will do.
-        unsafe { painted(function as *const (), [[byte.into(), 0], [0; 2], [0; 2], [0; 2]], paint).stack }
+        unsafe { painted(function as *const (), &[byte.into()], paint).stack }
     }
 
     #[test]
@@ -193,10 +215,22 @@ mod tests {
         assert!(on_another >= 5_000, "{on_another}");
     }
 
+    #[rustfmt::skip]
+    extern "C" fn all_nine(a: u64, b: u64, c: u64, d: u64, e: u64, f: u64, g: u64, h: u64, i: u64) -> u64 {
+        [a, b, c, d, e, f, g, h, i].iter().fold(0, |number, word| 10 * number + word)
+    }
+
+    #[test]
+    fn nine_words_are_handed_over() {
+        // SAFETY: the function takes nine words, and every word will do.
+        let painted = unsafe { painted(all_nine as *const (), &[1, 2, 3, 4, 5, 6, 7, 8, 9], 0xA5) };
+        assert_eq!(painted.answer, 123_456_789);
+    }
+
     #[test]
     fn a_call_gives_its_answer() {
         // SAFETY: as above.
-        let painted = unsafe { painted(fills::<7> as *const (), [[0; 2]; 4], 0xA5) };
+        let painted = unsafe { painted(fills::<7> as *const (), &[0], 0xA5) };
         assert_eq!(painted.answer, 7);
     }
 }

@@ -2,20 +2,25 @@
 
 use crate::fragments::{any_access, Arena, Taste, STYLES};
 use crate::grower::Grower;
+use crate::memories::{bytes, refused_sum, Memory};
+use crate::model::codes::row_of;
+use crate::model::place::width;
 use crate::model::reach::{Reach, TASKS};
 use crate::model::state::{Machine, MEMORY};
+use crate::model::sum::sum_of;
 use crate::model::tasks::Task;
-use crate::operands::over_an_end_of_view;
+use crate::operands::{over, over_an_end_of_view};
 use crate::random::Random;
-use crate::state_bytes::{RESULT_BYTES, STATE_BYTES};
+use crate::state_bytes::{READ_RESULT_BYTES, RESULT_BYTES, STATE_BYTES, TASKS_BYTES};
 use crate::states::{broken, well_formed, CLAUSES};
 use crate::task_chains::Pace;
 
+const WRONG_SUM: &str = "state: wrong sum";
 /// Code of a state's runs lies here.
 const ARENA: Arena = Arena { start: 0, length: 4096 };
 
-/// The lengths of the buffers lent to one call of `run_state` or `run_tasks`.
-#[derive(Clone, Copy)]
+/// The lengths of the buffers lent to one call of `read_image`, `run_state` or `run_tasks`.
+#[derive(Clone, Copy, PartialEq)]
 pub struct Lengths {
     /// Of the state, or of the tasks.
     pub machines: usize,
@@ -24,15 +29,17 @@ pub struct Lengths {
 }
 
 impl Lengths {
-    pub const RIGHT: Lengths = Lengths { machines: STATE_BYTES, memory: MEMORY, result: RESULT_BYTES };
+    pub const OF_READ: Lengths = Lengths { machines: STATE_BYTES, memory: MEMORY, result: READ_RESULT_BYTES };
+    pub const OF_STATE: Lengths = Lengths { machines: STATE_BYTES, memory: MEMORY, result: RESULT_BYTES };
+    pub const OF_TASKS: Lengths = Lengths { machines: TASKS_BYTES, memory: MEMORY, result: RESULT_BYTES };
 
-    /// Whether a call that wants so many bytes of machines takes the buffers; a wrong memory it takes, and answers 2.
-    pub fn suit(self, machines: usize) -> bool {
-        self.machines == machines && self.result == RESULT_BYTES
+    /// Whether a call that wants other lengths takes these; a wrong memory it takes, and answers 2.
+    pub fn suit(self, wanted: Lengths) -> bool {
+        self.machines == wanted.machines && self.result == wanted.result
     }
 }
 
-/// What takes each state, or four tasks, through a run, and leaves them and the memory as the run leaves them.
+/// What takes each state, or four tasks, through a run, and leaves them, the memory and its sum as the run leaves them.
 pub trait Runner {
     type Failure;
 
@@ -40,7 +47,7 @@ pub trait Runner {
         &mut self,
         kind: &'static str,
         machine: &mut Machine,
-        memory: &mut Vec<u8>,
+        memory: &mut Memory,
         budget: u64,
         lengths: Lengths,
     ) -> Result<(), Self::Failure>;
@@ -49,7 +56,7 @@ pub trait Runner {
         &mut self,
         kind: &'static str,
         tasks: &mut [Task; TASKS],
-        memory: &mut Vec<u8>,
+        memory: &mut Memory,
         pace: Pace,
         lengths: Lengths,
     ) -> Result<(), Self::Failure>;
@@ -57,29 +64,30 @@ pub trait Runner {
 
 /// States of a random kind; gives the number of runs they took.
 pub fn any_state<R: Runner>(runner: &mut R, random: &mut Random) -> Result<u64, R::Failure> {
-    match random.below(10) {
-        0 => one_clause_broken(runner, random),
-        1 => wrong_call(runner, random),
+    match random.below(14) {
+        0 | 1 => {
+            let machine = well_formed(random);
+            let mut memory = Memory::any(random);
+            wrong_call(runner, random, machine, &mut memory)?;
+            Ok(1)
+        }
         2..=5 => any_instruction(runner, random),
+        6..=9 => any_store(runner, random),
         _ => chain(runner, random),
     }
 }
 
-fn one_clause_broken<R: Runner>(runner: &mut R, random: &mut Random) -> Result<u64, R::Failure> {
-    let clause = random.below(CLAUSES.len());
-    let mut machine = broken(random, clause);
-    let mut memory = memory(random);
-    runner.state(CLAUSES[clause], &mut machine, &mut memory, 10, Lengths::RIGHT)?;
-    Ok(1)
-}
-
-/// A good state with one buffer or the budget not as it should be.
-fn wrong_call<R: Runner>(runner: &mut R, random: &mut Random) -> Result<u64, R::Failure> {
-    let mut machine = well_formed(random);
-    let mut memory = memory(random);
-    let mut lengths = Lengths::RIGHT;
+/// A call with one buffer, the budget, the state or the sum not as it should be, and now and then the sum besides. The
+/// host has its own sum again afterwards.
+fn wrong_call<R: Runner>(
+    runner: &mut R,
+    random: &mut Random,
+    mut machine: Machine,
+    memory: &mut Memory,
+) -> Result<(), R::Failure> {
+    let mut lengths = Lengths::OF_STATE;
     let mut budget = 5;
-    let kind = match random.below(4) {
+    let kind = match random.below(9) {
         0 => {
             lengths.machines = random.pick(&[0, 1, STATE_BYTES - 1, STATE_BYTES + 1]);
             "state: of a wrong length"
@@ -89,31 +97,43 @@ fn wrong_call<R: Runner>(runner: &mut R, random: &mut Random) -> Result<u64, R::
             "state: wrong memory"
         }
         2 => {
-            lengths.result = random.pick(&[0, 1, 8, lengths.result - 1, lengths.result + 1]);
+            lengths.result = random.pick(&[0, 1, 8, 24, lengths.result - 1, lengths.result + 1]);
             "state: wrong result"
         }
-        _ => {
+        3 => {
             budget = random.pick(&[1_000_001, 1 << 32, 1 << 63, u64::MAX]);
             "state: wrong budget"
         }
+        4..=6 => {
+            let clause = random.below(CLAUSES.len());
+            machine = broken(random, clause);
+            CLAUSES[clause]
+        }
+        _ => WRONG_SUM,
     };
-    runner.state(kind, &mut machine, &mut memory, budget, lengths)?;
-    Ok(1)
+    let own = memory.sum;
+    if kind == WRONG_SUM || random.percent(20) {
+        memory.sum = refused_sum(random, sum_of(&memory.bytes));
+    }
+    runner.state(kind, &mut machine, memory, budget, lengths)?;
+    memory.sum = own;
+    Ok(())
 }
 
 /// Any bytes at the program counter of any state: where several refusals apply, it is seen which is given.
 fn any_instruction<R: Runner>(runner: &mut R, random: &mut Random) -> Result<u64, R::Failure> {
     let mut machine = well_formed(random);
-    let mut memory = memory(random);
+    let mut bytes = bytes(random);
     let at = if random.percent(10) { MEMORY - random.between(1, 5) } else { random.below(MEMORY) };
     machine.program_counter = at as u32;
-    memory[at] = match random.below(10) {
+    bytes[at] = match random.below(10) {
         0 => random.byte(),
         1 | 2 => partly_in_view(&mut machine, random),
         _ => random.below(0x3F) as u8,
     };
     let budget = random.between(0, 2) as u64;
-    runner.state("state: any instruction", &mut machine, &mut memory, budget, Lengths::RIGHT)?;
+    let mut memory = Memory::with_any_sum(random, bytes);
+    runner.state("state: any instruction", &mut machine, &mut memory, budget, Lengths::OF_STATE)?;
     Ok(1)
 }
 
@@ -126,25 +146,58 @@ fn partly_in_view(machine: &mut Machine, random: &mut Random) -> u8 {
     code
 }
 
+/// A store in any state: of too few cells, to any address, and mostly to memory.
+fn any_store<R: Runner>(runner: &mut R, random: &mut Random) -> Result<u64, R::Failure> {
+    let mut machine = well_formed(random);
+    let mut bytes = bytes(random);
+    let (at, code) = (random.below(MEMORY), random.pick(&[0x2E, 0x30, 0x32]));
+    machine.program_counter = at as u32;
+    bytes[at] = code;
+    match random.below(10) {
+        0 | 1 => machine.p = random.below(2),
+        2 | 3 => {}
+        _ => {
+            let address = random.below(MEMORY - 3) as u32;
+            aim(random, &mut machine, code, address, &bytes);
+        }
+    }
+    let mut memory = Memory::with_any_sum(random, bytes);
+    runner.state("state: any store", &mut machine, &mut memory, 1, Lengths::OF_STATE)?;
+    Ok(1)
+}
+
+/// Gives the machine an address to fetch from or to store to, and a number for a store over what stands there.
+pub fn aim(random: &mut Random, machine: &mut Machine, code: u8, address: u32, bytes: &[u8]) {
+    let start = address as usize;
+    let stands = row_of(code).and_then(|row| bytes.get(start..start + width(row.op)));
+    for (below, number) in [(1, address), (2, over(random, stands.unwrap_or_default()))] {
+        if machine.p >= below {
+            machine.parameters[machine.p - below] = number;
+        }
+    }
+}
+
 /// Several runs of one state, one after another, the memory changed in between.
 fn chain<R: Runner>(runner: &mut R, random: &mut Random) -> Result<u64, R::Failure> {
     let mut machine = if random.percent(15) { Machine::fresh() } else { well_formed(random) };
-    let mut memory = memory(random);
+    let mut bytes = bytes(random);
     machine.program_counter = if random.percent(2) { random.u32() } else { random.below(ARENA.length) as u32 };
-    let runs = random.between(1, 5) as u64;
-    for _ in 0..runs {
+    let mut runs = 0;
+    for _ in 0..random.between(1, 5) {
         let (_, style) = random.pick(&STYLES);
         let target = random.between(1, 120) as u64;
-        let copy: Box<[u8; MEMORY]> = memory.clone().into_boxed_slice().try_into().expect("a memory's length");
+        let copy: Box<[u8; MEMORY]> = bytes.clone().into_boxed_slice().try_into().expect("a memory's length");
         let taste = Taste { style, arena: ARENA, reach: Reach::Alone };
         let grown = Grower::new(random, copy, target).grow(machine.clone(), &taste);
         for (address, byte) in grown.chosen {
-            memory[address] = byte;
+            bytes[address] = byte;
         }
         let budget = grown.steps.saturating_sub(random.below(2) as u64) + random.below(3) as u64;
-        runner.state("state: run in a chain", &mut machine, &mut memory, budget, Lengths::RIGHT)?;
+        let mut memory = Memory::with_any_sum(random, bytes);
+        runs += in_slices(runner, random, "state: run in a chain", &mut machine, &mut memory, budget)?;
+        bytes = memory.bytes;
         let elsewhere = random.below(MEMORY);
-        memory[elsewhere] = random.byte();
+        bytes[elsewhere] = random.byte();
         // A machine that was refused would be refused again: the host moves it on.
         if grown.ended.is_some() {
             machine.program_counter = random.below(ARENA.length) as u32;
@@ -153,7 +206,37 @@ fn chain<R: Runner>(runner: &mut R, random: &mut Random) -> Result<u64, R::Failu
     Ok(runs)
 }
 
-/// A memory full of anything.
-pub fn memory(random: &mut Random) -> Vec<u8> {
-    random.bytes(256).repeat(MEMORY / 256)
+/// Runs a state with a budget that may be cut into slices; gives the number of calls.
+pub fn in_slices<R: Runner>(
+    runner: &mut R,
+    random: &mut Random,
+    kind: &'static str,
+    machine: &mut Machine,
+    memory: &mut Memory,
+    budget: u64,
+) -> Result<u64, R::Failure> {
+    let calls = slices(random, budget);
+    for slice in &calls {
+        match *slice {
+            Some(budget) => runner.state(kind, machine, memory, budget, Lengths::OF_STATE)?,
+            None => wrong_call(runner, random, machine.clone(), memory)?,
+        }
+    }
+    Ok(calls.len() as u64)
+}
+
+/// A budget for one run, or cut into pieces for runs of which each is handed just what the one before handed back. Nothing
+/// stands for a call between them that is refused.
+pub fn slices(random: &mut Random, mut budget: u64) -> Vec<Option<u64>> {
+    let mut calls = Vec::new();
+    while random.percent(40) {
+        let slice = random.between(0, budget as usize) as u64;
+        budget -= slice;
+        calls.push(Some(slice));
+        if random.percent(30) {
+            calls.push(None);
+        }
+    }
+    calls.push(Some(budget));
+    calls
 }

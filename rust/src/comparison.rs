@@ -2,13 +2,15 @@
 
 use crate::boundary::PROVED;
 use crate::chains::{Lengths, Runner};
+use crate::memories::Memory;
 use crate::model::bench::bench;
+use crate::model::image::{load_image, Loaded};
 use crate::model::reach::TASKS;
 use crate::model::run::{run, Outcome};
 use crate::model::state::{Answer, Machine, MEMORY};
 use crate::model::tasks::{run_tasks, Task};
 use crate::random::Random;
-use crate::state_bytes::{spell, spell_result, spell_tasks, STATE_BYTES, TASKS_BYTES};
+use crate::state_bytes::{numbers_in, spell, spell_read_result, spell_result, spell_tasks};
 use crate::tally::Tally;
 use crate::task_chains::Pace;
 
@@ -87,100 +89,188 @@ impl Comparison {
         )))
     }
 
-    /// Hands machines, memory and a result full of noise to both. The model's run is given where the lengths suit: it
-    /// gives the machines as they then are, and the outcome.
+    /// Reads an image on both, into buffers full of noise; gives what was read.
+    pub fn read(&mut self, image: &[u8], lengths: Lengths) -> Result<Option<(Loaded, Memory)>, Difference> {
+        let [machines, memory, result] =
+            [lengths.machines, lengths.memory, lengths.result].map(|length| self.noise[..length].to_vec());
+        let mut read = None;
+        let left = self.hand_to_both(
+            || format!("read {}", hex(image)),
+            Buffers { machines, memory, result },
+            |ours, tally| {
+                let suits = lengths.suit(Lengths::OF_READ);
+                let loaded = if suits { load_image(image, &mut ours.memory) } else { Err(Answer::BadInput) };
+                tally.read(lengths, loaded.as_ref().err());
+                match loaded {
+                    Ok(loaded) => {
+                        ours.machines = spell(&loaded.machine);
+                        ours.result = spell_read_result(&loaded);
+                        read = Some(loaded);
+                        0
+                    }
+                    Err(answer) => answer.number(),
+                }
+            },
+            |theirs| PROVED.read_image(image, &mut theirs.memory, &mut theirs.machines, &mut theirs.result),
+        )?;
+        let Some(loaded) = read else { return Ok(None) };
+        let [_, sum] = numbers_in(&left.result);
+        let memory = Memory { bytes: left.memory, sum };
+        must_be_true(&memory)?;
+        Ok(Some((loaded, memory)))
+    }
+
+    /// Runs machines on both, and leaves memory and sum as they did. The model gives the machines as they then are, and the
+    /// outcome; it is asked where the lengths suit those that are wanted.
+    fn run_on_both(
+        &mut self,
+        words: String,
+        machines: Vec<u8>,
+        memory: &mut Memory,
+        [lengths, wanted]: [Lengths; 2],
+        model: impl FnOnce(&Memory, &mut Vec<u8>, &mut Tally) -> (Vec<u8>, Outcome),
+        proved: impl FnOnce(&mut Buffers) -> u64,
+    ) -> Result<(), Difference> {
+        let before = Buffers {
+            machines: filled(machines, lengths.machines),
+            memory: filled(memory.bytes.clone(), lengths.memory),
+            result: self.noise[..lengths.result].to_vec(),
+        };
+        let mut handed_back = memory.sum;
+        let left = self.hand_to_both(
+            || words,
+            before,
+            |ours, tally| {
+                if !lengths.suit(wanted) {
+                    return REFUSED;
+                }
+                let (machines, outcome) = model(memory, &mut ours.memory, tally);
+                ours.machines = machines;
+                ours.result = spell_result(outcome);
+                handed_back = outcome.sum;
+                0
+            },
+            proved,
+        )?;
+        let was_true = memory.has_true_sum();
+        memory.sum = handed_back;
+        // Of a wrong length it was a copy, which no run alters.
+        if lengths.memory == MEMORY {
+            memory.bytes = left.memory;
+        }
+        if was_true {
+            must_be_true(memory)?;
+        }
+        Ok(())
+    }
+
+    /// Hands the same buffers to both, and gives them as both leave them.
     fn hand_to_both(
         &mut self,
-        words: &str,
-        before: &[u8],
-        memory: &mut Vec<u8>,
-        lengths: Lengths,
-        model: Option<impl FnOnce(&mut Vec<u8>, &mut Tally) -> (Vec<u8>, Outcome)>,
-        proved: impl FnOnce(&mut [u8], &mut [u8], &mut [u8]) -> u64,
-    ) -> Result<(), Difference> {
-        let (mut ours, mut our_result) = (before.to_vec(), self.noise[..lengths.result].to_vec());
-        let (mut theirs, mut their_result) = (ours.clone(), our_result.clone());
-        memory.resize(lengths.memory, 0);
-        let memory_before = memory.clone();
-        self.theirs.clone_from(memory);
-
-        let mut expected_number = REFUSED;
-        if let Some(model) = model {
-            let (machines, outcome) = model(memory, &mut self.tally);
-            ours = machines;
-            our_result = spell_result(outcome);
-            expected_number = 0;
+        words: impl FnOnce() -> String,
+        before: Buffers,
+        model: impl FnOnce(&mut Buffers, &mut Tally) -> u64,
+        proved: impl FnOnce(&mut Buffers) -> u64,
+    ) -> Result<Buffers, Difference> {
+        let (mut ours, mut theirs) = (before.clone(), before.clone());
+        let expected_number = model(&mut ours, &mut self.tally);
+        let number = proved(&mut theirs);
+        if number == expected_number && theirs == ours {
+            return Ok(theirs);
         }
-        let number = proved(&mut theirs, &mut self.theirs, &mut their_result);
-        let same = number == expected_number && theirs == ours && self.theirs == *memory && their_result == our_result;
-        let difference = || {
-            Difference(format!(
-                "{words}\nbefore {}\nmemory {}\nmodel  {expected_number}: result {}\nproved {number}: result {}\n{}{}",
-                hex(before),
-                hex(&memory_before),
-                hex(&our_result),
-                hex(&their_result),
-                first_difference("what was handed in", &ours, &theirs),
-                first_difference("memory", memory, &self.theirs),
-            ))
-        };
-        let result = if same { Ok(()) } else { Err(difference()) };
-        memory.resize(MEMORY, 0);
-        result
+        Err(Difference(format!(
+            "{}\nbefore {}\nmemory {}\nmodel  {expected_number}: result {}\nproved {number}: result {}\n{}{}",
+            words(),
+            hex(&before.machines),
+            hex(&before.memory),
+            hex(&ours.result),
+            hex(&theirs.result),
+            first_difference("what was handed in", &ours.machines, &theirs.machines),
+            first_difference("memory", &ours.memory, &theirs.memory),
+        )))
+    }
+}
+
+/// What is lent to a call beside an image.
+#[derive(Clone, PartialEq)]
+struct Buffers {
+    machines: Vec<u8>,
+    memory: Vec<u8>,
+    result: Vec<u8>,
+}
+
+/// Both could hand back the same sum and be wrong, so the bytes are added up afresh.
+fn must_be_true(memory: &Memory) -> Result<(), Difference> {
+    match memory.has_true_sum() {
+        true => Ok(()),
+        false => Err(Difference(format!("the sum {} is not that of the memory {}", memory.sum, hex(&memory.bytes)))),
     }
 }
 
 impl Runner for Comparison {
     type Failure = Difference;
 
-    /// Runs a state on both, and leaves machine and memory as the model left them.
+    /// Runs a state on both, and leaves machine, memory and sum as they did.
     fn state(
         &mut self,
         kind: &'static str,
         machine: &mut Machine,
-        memory: &mut Vec<u8>,
+        memory: &mut Memory,
         budget: u64,
         lengths: Lengths,
     ) -> Result<(), Difference> {
         self.tally.kind(kind);
-        let before = filled(spell(machine), lengths.machines);
-        let model = lengths.suit(STATE_BYTES).then_some(|memory: &mut Vec<u8>, tally: &mut Tally| {
-            let outcome = run(machine, memory, budget, &mut tally.instructions);
-            tally.answer(outcome.answer);
-            (spell(machine), outcome)
-        });
-        self.hand_to_both(
-            &format!("a state, budget {budget}"),
-            &before,
+        let sum = memory.sum;
+        self.run_on_both(
+            format!("a state, budget {budget}, sum {sum}"),
+            spell(machine),
             memory,
-            lengths,
-            model,
-            |state, memory, result| PROVED.run_state(state, memory, budget, result),
+            [lengths, Lengths::OF_STATE],
+            |handed, memory, tally| {
+                let mut observer = (&mut tally.instructions, &mut tally.sums);
+                let outcome = run(machine, memory, budget, sum, &mut observer);
+                tally.answer(outcome.answer);
+                tally.sums.ran(handed, outcome, memory, || {
+                    let with_another = run(&mut machine.clone(), &mut memory.clone(), budget, 0, &mut ());
+                    with_another.answer != Answer::BadInput
+                });
+                (spell(machine), outcome)
+            },
+            |theirs| PROVED.run_state(&mut theirs.machines, &mut theirs.memory, budget, sum, &mut theirs.result),
         )
     }
 
-    /// Runs four tasks on both, and leaves tasks and memory as the model left them.
+    /// Runs four tasks on both, and leaves tasks, memory and sum as they did.
     fn tasks(
         &mut self,
         kind: &'static str,
         tasks: &mut [Task; TASKS],
-        memory: &mut Vec<u8>,
+        memory: &mut Memory,
         pace: Pace,
         lengths: Lengths,
     ) -> Result<(), Difference> {
         let Pace { quantum, budget } = pace;
         self.tally.turns.kind(kind);
-        let before = filled(spell_tasks(tasks), lengths.machines);
-        let model = lengths.suit(TASKS_BYTES).then_some(|memory: &mut Vec<u8>, tally: &mut Tally| {
-            tally.turns.begins(tasks, pace);
-            let outcome = run_tasks(tasks, memory, quantum, budget, &mut tally.turns);
-            tally.turns.answer(outcome.answer);
-            (spell_tasks(tasks), outcome)
-        });
-        let words = format!("four tasks, quantum {quantum}, budget {budget}");
-        self.hand_to_both(&words, &before, memory, lengths, model, |tasks, memory, result| {
-            PROVED.run_tasks(tasks, memory, quantum, budget, result)
-        })
+        let sum = memory.sum;
+        self.run_on_both(
+            format!("four tasks, quantum {quantum}, budget {budget}, sum {sum}"),
+            spell_tasks(tasks),
+            memory,
+            [lengths, Lengths::OF_TASKS],
+            |handed, memory, tally| {
+                tally.turns.begins(tasks, pace);
+                let outcome = run_tasks(tasks, memory, quantum, budget, sum, &mut tally.turns);
+                tally.turns.answer(outcome.answer);
+                tally.turns.sums.ran(handed, outcome, memory, || {
+                    let with_another = run_tasks(&mut tasks.clone(), &mut memory.clone(), quantum, budget, 0, &mut ());
+                    with_another.answer != Answer::BadInput
+                });
+                (spell_tasks(tasks), outcome)
+            },
+            |theirs| {
+                PROVED.run_tasks(&mut theirs.machines, &mut theirs.memory, quantum, budget, sum, &mut theirs.result)
+            },
+        )
     }
 }
 
@@ -213,5 +303,17 @@ fn first_difference(what: &str, ours: &[u8], theirs: &[u8]) -> String {
     match ours.iter().zip(theirs).position(|(a, b)| a != b) {
         Some(at) => format!("{what} differs first at byte {at}: model {:02X}, proved {:02X}\n", ours[at], theirs[at]),
         None => String::new(),
+    }
+}
+
+#[cfg(test)]
+mod tests {
+    use super::*;
+
+    #[test]
+    fn a_sum_that_is_not_true_is_a_difference() {
+        let memory = |sum| Memory { bytes: vec![250, 7], sum };
+        assert!(must_be_true(&memory(257)).is_ok());
+        assert!([0, 1, 256, 258].iter().all(|&sum| must_be_true(&memory(sum)).is_err()));
     }
 }

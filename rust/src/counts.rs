@@ -1,6 +1,7 @@
 //! Lists of what is to be seen, with how often it was.
 
 use std::fmt;
+use std::ops::RangeInclusive;
 
 pub type Counted = (String, u64);
 
@@ -39,6 +40,15 @@ pub fn grouped(number: u64) -> String {
         text.push(digit);
     }
     text
+}
+
+/// A name for some numbers in a row.
+pub type Stretch = (&'static str, RangeInclusive<u64>);
+
+/// The name of the stretch in which a number lies.
+pub fn stretch(stretches: &[Stretch], number: u64) -> &'static str {
+    let named = stretches.iter().find(|(_, stretch)| stretch.contains(&number));
+    named.unwrap_or_else(|| panic!("{number} lies in no stretch")).0
 }
 
 /// A list whose names are known before anything is seen.

@@ -25,6 +25,8 @@ pub fn sweep() -> Vec<Vec<u8>> {
         }
     }
     files.extend(sizes());
+    // The greatest memory sum.
+    files.push(image(&[0xFF; MEMORY], &[], Some(0)));
     files.into_iter().map(stopped).collect()
 }
 

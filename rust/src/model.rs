@@ -22,6 +22,9 @@ mod seams;
 mod sheet;
 pub mod state;
 pub mod step;
+pub mod sum;
+#[cfg(test)]
+mod sums;
 pub mod tasks;
 pub mod turn;
 #[cfg(test)]

@@ -20,6 +20,16 @@ pub fn cell(random: &mut Random) -> u32 {
     }
 }
 
+/// A number for a store over these bytes: often one that leaves them, or one that turns them round and leaves their sum.
+pub fn over(random: &mut Random, bytes: &[u8]) -> u32 {
+    let before = |number: u32, byte: &u8| number << 8 | u32::from(*byte);
+    match random.below(5) {
+        0 => bytes.iter().fold(random.u32(), before),
+        1 | 2 => bytes.iter().rev().fold(random.u32(), before),
+        _ => cell(random),
+    }
+}
+
 /// An address of data: inside memory, in view, or close to an edge of either.
 pub fn address(random: &mut Random) -> u32 {
     let near = random.below(12) as u32;

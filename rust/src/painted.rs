@@ -5,11 +5,12 @@ use std::convert::Infallible;
 use crate::boundary::{painted_bench, painted_read_image, painted_run_state, painted_run_tasks, Painted};
 use crate::chains::{Lengths, Runner};
 use crate::comparison::{filled, Room, OUT};
+use crate::memories::Memory;
 use crate::model::reach::TASKS;
 use crate::model::run::run;
-use crate::model::state::{Machine, MEMORY};
+use crate::model::state::Machine;
 use crate::model::tasks::{run_tasks, Task};
-use crate::state_bytes::{spell, spell_tasks, READ_RESULT_BYTES, RESULT_BYTES, STATE_BYTES};
+use crate::state_bytes::{numbers_in, spell, spell_tasks, READ_RESULT_BYTES, RESULT_BYTES, STATE_BYTES};
 use crate::task_chains::Pace;
 
 /// No byte has the colour of both: what is written in the one is seen on the other.
@@ -49,11 +50,11 @@ impl Depths {
             self.run_image(file, &mut memory, room.bytes(text as usize));
         }
         let mut state = [0; STATE_BYTES];
-        let mut budget = [0; READ_RESULT_BYTES];
+        let mut result = [0; READ_RESULT_BYTES];
         let answer =
-            self.read_image.seen(|paint| painted_read_image(paint, file, &mut memory, &mut state, &mut budget));
+            self.read_image.seen(|paint| painted_read_image(paint, file, &mut memory, &mut state, &mut result));
         if answer == 0 {
-            self.run_bytes(&state, &memory, u64::from_be_bytes(budget), RESULT_BYTES);
+            self.run_bytes(&state, &memory, numbers_in(&result), RESULT_BYTES);
         }
     }
 
@@ -62,11 +63,12 @@ impl Depths {
         self.bench.seen(|paint| painted_bench(paint, file, memory, &mut out))
     }
 
-    fn run_bytes(&mut self, state: &[u8], memory: &[u8], budget: u64, result_length: usize) {
+    /// With a budget and a sum.
+    fn run_bytes(&mut self, state: &[u8], memory: &[u8], with: [u64; 2], result_length: usize) {
         let mut result = vec![0; result_length];
         self.run_state.seen(|paint| {
             let (mut state, mut memory) = (state.to_vec(), memory.to_vec());
-            painted_run_state(paint, &mut state, &mut memory, budget, &mut result)
+            painted_run_state(paint, &mut state, &mut memory, with, &mut result)
         });
     }
 }
@@ -74,19 +76,20 @@ impl Depths {
 impl Runner for Depths {
     type Failure = Infallible;
 
-    /// The model takes machine and memory on to the next run.
+    /// The model takes machine, memory and sum on to the next run.
     fn state(
         &mut self,
         _kind: &'static str,
         machine: &mut Machine,
-        memory: &mut Vec<u8>,
+        Memory { bytes, sum }: &mut Memory,
         budget: u64,
         lengths: Lengths,
     ) -> Result<(), Infallible> {
-        memory.resize(lengths.memory, 0);
-        self.run_bytes(&filled(spell(machine), lengths.machines), memory, budget, lengths.result);
-        run(machine, memory, budget, &mut ());
-        memory.resize(MEMORY, 0);
+        let state = filled(spell(machine), lengths.machines);
+        self.run_bytes(&state, &filled(bytes.clone(), lengths.memory), [budget, *sum], lengths.result);
+        if lengths == Lengths::OF_STATE {
+            *sum = run(machine, bytes, budget, *sum, &mut ()).sum;
+        }
         Ok(())
     }
 
@@ -95,19 +98,20 @@ impl Runner for Depths {
         &mut self,
         _kind: &'static str,
         tasks: &mut [Task; TASKS],
-        memory: &mut Vec<u8>,
+        Memory { bytes, sum }: &mut Memory,
         Pace { quantum, budget }: Pace,
         lengths: Lengths,
     ) -> Result<(), Infallible> {
-        memory.resize(lengths.memory, 0);
-        let bytes = filled(spell_tasks(tasks), lengths.machines);
+        let spelled = filled(spell_tasks(tasks), lengths.machines);
+        let lent = filled(bytes.clone(), lengths.memory);
         let mut result = vec![0; lengths.result];
         self.run_tasks.seen(|paint| {
-            let (mut bytes, mut memory) = (bytes.clone(), memory.clone());
-            painted_run_tasks(paint, &mut bytes, &mut memory, quantum, budget, &mut result)
+            let (mut spelled, mut lent) = (spelled.clone(), lent.clone());
+            painted_run_tasks(paint, &mut spelled, &mut lent, [quantum, budget, *sum], &mut result)
         });
-        run_tasks(tasks, memory, quantum, budget, &mut ());
-        memory.resize(MEMORY, 0);
+        if lengths == Lengths::OF_TASKS {
+            *sum = run_tasks(tasks, bytes, quantum, budget, *sum, &mut ()).sum;
+        }
         Ok(())
     }
 }

@@ -2,6 +2,7 @@
 
 use crate::assembler::image;
 use crate::budgets::{stopped, GIVEN_BUDGET};
+use crate::chains::Lengths;
 use crate::comparison::Room;
 use crate::damage::damaged;
 use crate::fragments::{Arena, Taste, STYLES};
@@ -104,5 +105,18 @@ pub fn buffers(random: &mut Random) -> (usize, Room) {
         1 => (MEMORY, Room::Short(random.pick(&[1, 1, 2, 9, 40, usize::MAX]))),
         2..=4 => (MEMORY, Room::Exact),
         _ => (MEMORY, Room::Plenty),
+    }
+}
+
+/// The same for the reader, which wants a state and a result besides.
+pub fn lengths_of_read(random: &mut Random) -> Lengths {
+    let right = Lengths::OF_READ;
+    let wrong =
+        |random: &mut Random, length: usize| random.pick(&[0, 1, length / 2, length - 1, length + 1, 2 * length]);
+    match random.below(50) {
+        0 => Lengths { memory: wrong(random, right.memory), ..right },
+        1 => Lengths { machines: wrong(random, right.machines), ..right },
+        2 => Lengths { result: wrong(random, right.result), ..right },
+        _ => right,
     }
 }

@@ -57,7 +57,7 @@ mod tests {
     #[test]
     fn tasks_run_until_the_budget_is_spent() {
         for SpeedTasks { name, mut tasks, mut memory, quantum, steps } in speed_tasks() {
-            let Outcome { answer, steps: taken, .. } = run_tasks(&mut tasks, &mut memory, quantum, steps, &mut ());
+            let Outcome { answer, steps: taken, .. } = run_tasks(&mut tasks, &mut memory, quantum, steps, 0, &mut ());
             assert_eq!((answer, taken), (Answer::BudgetSpent, steps), "{name}");
             assert!(tasks.iter().all(|task| task.kept == READY), "{name}");
         }

@@ -3,12 +3,14 @@
 use crate::boundary::{Foreign, PLAIN_C, PROVED};
 use crate::model::bench::bench;
 use crate::model::reach::TASKS;
-use crate::model::run::Outcome;
-use crate::model::state::MEMORY;
+use crate::model::run::{self, Outcome};
+use crate::model::state::{Machine, MEMORY};
+use crate::model::sum::sum_of;
 use crate::model::tasks::{self, Task};
 use crate::speed_images::{speed_images, SpeedImage};
+use crate::speed_states::{speed_states, SpeedState};
 use crate::speed_tasks::{speed_tasks, SpeedTasks};
-use crate::state_bytes::{spell_result, spell_tasks, RESULT_BYTES};
+use crate::state_bytes::{spell, spell_result, spell_tasks, RESULT_BYTES};
 
 /// Calls of a small run that are taken together.
 const SMALL_CALLS: u64 = 1000;
@@ -16,6 +18,7 @@ const SMALL_CALLS: u64 = 1000;
 /// One row of the table.
 pub enum Work {
     Image(SpeedImage),
+    State(SpeedState),
     Tasks(SpeedTasks),
 }
 
@@ -24,9 +27,12 @@ pub enum Work {
 pub struct Contender {
     pub name: &'static str,
     bench_entry: &'static str,
+    state_entry: &'static str,
     tasks_entry: &'static str,
     bench: fn(&[u8], &mut [u8], &mut [u8]) -> u64,
-    /// Gives the tasks, the memory and the result as bytes.
+    /// Gives the state, the memory and the result as bytes.
+    run_state: fn(&SpeedState) -> Vec<u8>,
+    /// As above, with the tasks.
     run_tasks: fn(&SpeedTasks) -> Vec<u8>,
 }
 
@@ -35,34 +41,42 @@ pub const CONTENDERS: [Contender; 3] = [
     Contender {
         name: "plain-c",
         bench_entry: "plain_bench",
+        state_entry: "plain_run_state",
         tasks_entry: "plain_run_tasks",
         bench: |image, memory, out| PLAIN_C.bench(image, memory, out),
+        run_state: |work| foreign_state(PLAIN_C, work),
         run_tasks: |work| foreign_tasks(PLAIN_C, work),
     },
     Contender {
         name: "proved",
         bench_entry: "glidecotton_bench",
+        state_entry: "glidecotton_run_state",
         tasks_entry: "glidecotton_run_tasks",
         bench: |image, memory, out| PROVED.bench(image, memory, out),
+        run_state: |work| foreign_state(PROVED, work),
         run_tasks: |work| foreign_tasks(PROVED, work),
     },
     Contender {
         name: "model",
         bench_entry: "model_bench",
+        state_entry: "model_run_state",
         tasks_entry: "model_run_tasks",
         bench: model_bench,
+        run_state: model_state,
         run_tasks: model_tasks,
     },
 ];
 
 pub fn all_work() -> Vec<Work> {
-    speed_images().into_iter().map(Work::Image).chain(speed_tasks().into_iter().map(Work::Tasks)).collect()
+    let alone = speed_images().into_iter().map(Work::Image).chain(speed_states().map(Work::State));
+    alone.chain(speed_tasks().into_iter().map(Work::Tasks)).collect()
 }
 
 impl Work {
     pub fn name(&self) -> &str {
         match self {
             Work::Image(image) => image.name,
+            Work::State(state) => state.name,
             Work::Tasks(tasks) => &tasks.name,
         }
     }
@@ -72,6 +86,7 @@ impl Work {
         match self {
             Work::Image(image) if image.per_step => (image.steps, "a step"),
             Work::Image(_) => (SMALL_CALLS, "a run"),
+            Work::State(state) => (state.steps, "a step"),
             Work::Tasks(tasks) => (tasks.steps, "a step"),
         }
     }
@@ -87,6 +102,7 @@ impl Contender {
     pub fn entry(&self, work: &Work) -> &'static str {
         match work {
             Work::Image(_) => self.bench_entry,
+            Work::State(_) => self.state_entry,
             Work::Tasks(_) => self.tasks_entry,
         }
     }
@@ -95,6 +111,7 @@ impl Contender {
     pub fn repeat(&self, work: &Work) -> Vec<u8> {
         match work {
             Work::Image(image) => self.repeat_image(image),
+            Work::State(state) => (self.run_state)(state),
             Work::Tasks(tasks) => (self.run_tasks)(tasks),
         }
     }
@@ -123,19 +140,39 @@ fn model_bench(image: &[u8], memory: &mut [u8], out: &mut [u8]) -> u64 {
 /// As above.
 #[no_mangle]
 #[inline(never)]
-fn model_run_tasks(tasks: &mut [Task; TASKS], memory: &mut [u8], quantum: u64, budget: u64) -> Outcome {
-    tasks::run_tasks(tasks, memory, quantum, budget, &mut ())
+fn model_run_state(machine: &mut Machine, memory: &mut [u8], budget: u64, sum: u64) -> Outcome {
+    run::run(machine, memory, budget, sum, &mut ())
+}
+
+/// As above.
+#[no_mangle]
+#[inline(never)]
+fn model_run_tasks(tasks: &mut [Task; TASKS], memory: &mut [u8], quantum: u64, budget: u64, sum: u64) -> Outcome {
+    tasks::run_tasks(tasks, memory, quantum, budget, sum, &mut ())
+}
+
+fn model_state(work: &SpeedState) -> Vec<u8> {
+    let (mut machine, mut memory) = (Machine::fresh(), work.memory.clone());
+    let outcome = model_run_state(&mut machine, &mut memory, work.steps, sum_of(&work.memory));
+    [spell(&machine), memory, spell_result(outcome)].concat()
+}
+
+fn foreign_state(machine: Foreign, work: &SpeedState) -> Vec<u8> {
+    let (mut state, mut memory) = (spell(&Machine::fresh()), work.memory.clone());
+    let mut result = vec![0; RESULT_BYTES];
+    machine.run_state(&mut state, &mut memory, work.steps, sum_of(&work.memory), &mut result);
+    [state, memory, result].concat()
 }
 
 fn model_tasks(work: &SpeedTasks) -> Vec<u8> {
     let (mut tasks, mut memory) = (work.tasks.clone(), work.memory.clone());
-    let outcome = model_run_tasks(&mut tasks, &mut memory, work.quantum, work.steps);
+    let outcome = model_run_tasks(&mut tasks, &mut memory, work.quantum, work.steps, sum_of(&work.memory));
     [spell_tasks(&tasks), memory, spell_result(outcome)].concat()
 }
 
 fn foreign_tasks(machine: Foreign, work: &SpeedTasks) -> Vec<u8> {
     let (mut tasks, mut memory) = (spell_tasks(&work.tasks), work.memory.clone());
     let mut result = vec![0; RESULT_BYTES];
-    machine.run_tasks(&mut tasks, &mut memory, work.quantum, work.steps, &mut result);
+    machine.run_tasks(&mut tasks, &mut memory, work.quantum, work.steps, sum_of(&work.memory), &mut result);
     [tasks, memory, result].concat()
 }

@@ -1,5 +1,6 @@
 //! A whole state, and four tasks, as bytes, big endian, in the order in which the boundary passes it.
 
+use crate::model::image::Loaded;
 use crate::model::reach::TASKS;
 use crate::model::run::Outcome;
 use crate::model::state::{LastThrow, Machine, CATCHES, CATCH_CELLS, CELLS, FRAMES, LOCALS};
@@ -13,8 +14,8 @@ const CATCH: usize = CATCH_CELLS * CELL + 2 * POINTER + CELL;
 pub const STATE_BYTES: usize =
     2 * (CELLS * CELL + POINTER) + (FRAMES + 1) * FRAME + POINTER + (CATCHES + 1) * CATCH + POINTER + 4 * CELL;
 pub const TASKS_BYTES: usize = TASKS * (STATE_BYTES + POINTER);
-pub const RESULT_BYTES: usize = 3 * POINTER;
-pub const READ_RESULT_BYTES: usize = POINTER;
+pub const RESULT_BYTES: usize = 4 * POINTER;
+pub const READ_RESULT_BYTES: usize = 2 * POINTER;
 
 const _: () = assert!(STATE_BYTES == 3536 && TASKS_BYTES == 14_176);
 
@@ -48,7 +49,24 @@ pub fn spell_tasks(tasks: &[Task; TASKS]) -> Vec<u8> {
 }
 
 pub fn spell_result(outcome: Outcome) -> Vec<u8> {
-    [outcome.answer.number(), outcome.steps, outcome.cycles].iter().flat_map(|number| number.to_be_bytes()).collect()
+    spell_numbers(&[outcome.answer.number(), outcome.steps, outcome.cycles, outcome.sum])
+}
+
+/// What the reader writes beside memory and state.
+pub fn spell_read_result(loaded: &Loaded) -> Vec<u8> {
+    spell_numbers(&[loaded.budget, loaded.sum])
+}
+
+fn spell_numbers(numbers: &[u64]) -> Vec<u8> {
+    numbers.iter().flat_map(|number| number.to_be_bytes()).collect()
+}
+
+/// The numbers that a result spells, as many as it has.
+pub fn numbers_in<const COUNT: usize>(result: &[u8]) -> [u64; COUNT] {
+    assert_eq!(result.len(), COUNT * POINTER);
+    std::array::from_fn(|i| {
+        result[POINTER * i..][..POINTER].iter().fold(0, |number, &byte| number << 8 | u64::from(byte))
+    })
 }
 
 fn put_cells(bytes: &mut Vec<u8>, cells: &[u32]) {

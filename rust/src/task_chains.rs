@@ -1,12 +1,14 @@
 //! Runs of four tasks: any instructions, programs in turns, loops, and calls that are not as they should be.
 
 use crate::assembler::assemble;
-use crate::chains::{memory, Lengths, Runner};
+use crate::chains::{aim, slices, Lengths, Runner};
 use crate::fragments::{any_access, Arena, Taste, STYLES};
 use crate::grower::Grower;
+use crate::memories::{bytes, refused_sum, Memory};
 use crate::model::reach::{Reach, PART, SHARED, TASKS};
 use crate::model::run::MAX_BUDGET;
 use crate::model::state::{Answer, Machine, MEMORY};
+use crate::model::sum::sum_of;
 use crate::model::tasks::{run_tasks, Task, READY};
 use crate::operands::{around, in_view, over_an_end_of_view, seam};
 use crate::random::Random;
@@ -18,20 +20,18 @@ const LOOPS: &str = "tasks: loops";
 const CHAIN: &str = "tasks: run in a chain";
 /// The kinds of runs; the first are the wrong calls.
 #[rustfmt::skip]
-pub const KINDS: [&str; 11] = [
+pub const KINDS: [&str; 12] = [
     "tasks: of a wrong length", "tasks: wrong result", "tasks: wrong memory", "tasks: wrong budget", "tasks: wrong quantum",
-    "tasks: wrong kept number", "tasks: broken, ready", "tasks: broken, not ready",
+    "tasks: wrong kept number", "tasks: broken, ready", "tasks: broken, not ready", "tasks: wrong sum",
     ANY_INSTRUCTIONS, LOOPS, CHAIN,
 ];
-const WRONG: usize = 8;
+const WRONG_SUM: usize = 8;
 
 /// The numbers of the answers that a task can leave with.
 pub const ANSWERS_KEPT: [u64; 13] = [0, 3, 4, 5, 6, 7, 8, 9, 10, 11, 12, 13, 17];
 
 /// Work that is sure to be over after so many steps may be given any budget.
 const SOON: u64 = 10_000;
-
-const RIGHT: Lengths = Lengths { machines: TASKS_BYTES, memory: MEMORY, result: RESULT_BYTES };
 
 /// How long a turn and a run may be.
 #[derive(Clone, Copy)]
@@ -43,69 +43,85 @@ pub struct Pace {
 /// Tasks of a random kind; gives the number of runs they took.
 pub fn any_tasks<R: Runner>(runner: &mut R, random: &mut Random) -> Result<u64, R::Failure> {
     match random.below(20) {
-        0..=5 => wrong_call(runner, random),
-        6..=14 => any_instructions(runner, random),
+        0..=3 => {
+            let tasks = good_tasks(random);
+            let mut memory = Memory::any(random);
+            wrong_call(runner, random, tasks, &mut memory)?;
+            Ok(1)
+        }
+        4..=14 => any_instructions(runner, random),
         15 => loops(runner, random),
         _ => chain(runner, random),
     }
 }
 
-/// Good tasks with one buffer, one number or one task not as it should be.
-fn wrong_call<R: Runner>(runner: &mut R, random: &mut Random) -> Result<u64, R::Failure> {
-    let mut tasks = good_tasks(random);
-    let mut memory = memory(random);
-    let mut lengths = RIGHT;
+/// A call with one buffer, one number, one task or the sum not as it should be, and now and then the sum besides. The host
+/// has its own sum again afterwards.
+fn wrong_call<R: Runner>(
+    runner: &mut R,
+    random: &mut Random,
+    mut tasks: [Task; TASKS],
+    memory: &mut Memory,
+) -> Result<(), R::Failure> {
+    let mut lengths = Lengths::OF_TASKS;
     let mut pace = Pace { quantum: 3, budget: 5 };
-    let wrong = random.below(WRONG);
+    let wrong = random.below(WRONG_SUM + 2).min(WRONG_SUM);
     let task = &mut tasks[random.below(TASKS)];
     match wrong {
         0 => lengths.machines = random.pick(&[0, 1, TASKS_BYTES / TASKS, TASKS_BYTES - 1, TASKS_BYTES + 1]),
-        1 => lengths.result = random.pick(&[0, 1, 8, RESULT_BYTES - 1, RESULT_BYTES + 1]),
+        1 => lengths.result = random.pick(&[0, 1, 8, 24, RESULT_BYTES - 1, RESULT_BYTES + 1]),
         2 => lengths.memory = random.pick(&[0, 1, SHARED, MEMORY - 1, MEMORY + 1, 2 * MEMORY]),
         3 => pace.budget = random.pick(&[1_000_001, 1_000_001, 1 << 32, (1 << 32) + 5, 1 << 63, u64::MAX]),
         4 => pace.quantum = random.pick(&[0, 0, 1_001, 1_001, (1 << 32) + 3, u64::MAX]),
         5 => task.kept = random.pick(&[2, 14, 15, 16, 18, 256, 257, 1 << 32, (1 << 32) + 1, 1 << 63, u64::MAX]),
+        WRONG_SUM => {}
         broken_task => {
             let clause = random.below(CLAUSES.len());
             task.machine = broken(random, clause);
             task.kept = if broken_task == 6 { READY } else { random.pick(&ANSWERS_KEPT) };
         }
     }
-    runner.tasks(KINDS[wrong], &mut tasks, &mut memory, pace, lengths)?;
-    Ok(1)
+    let own = memory.sum;
+    if wrong == WRONG_SUM || random.percent(20) {
+        memory.sum = refused_sum(random, sum_of(&memory.bytes));
+    }
+    runner.tasks(KINDS[wrong], &mut tasks, memory, pace, lengths)?;
+    memory.sum = own;
+    Ok(())
 }
 
 /// Any instruction around a seam, or an access in shared code whose data is around one or around the cells in view, at
 /// the program counter of any task.
 fn any_instructions<R: Runner>(runner: &mut R, random: &mut Random) -> Result<u64, R::Failure> {
     let mut tasks = good_tasks(random);
-    let mut memory = memory(random);
+    let mut bytes = bytes(random);
     for (number, task) in tasks.iter_mut().enumerate() {
         let (at, code, data) = if random.percent(50) {
             (near(random, number), any_code(random), near(random, number))
         } else {
-            let (code, bytes) = any_access(random);
-            (random.below(SHARED) as u32, code, data(random, number, bytes))
+            let (code, width) = any_access(random);
+            (random.below(SHARED) as u32, code, data(random, number, width))
         };
-        let machine = &mut task.machine;
-        machine.program_counter = at;
-        if let Some(byte) = memory.get_mut(at as usize) {
+        task.machine.program_counter = at;
+        if let Some(byte) = bytes.get_mut(at as usize) {
             *byte = code;
         }
-        if machine.p > 0 && random.percent(90) {
-            machine.parameters[machine.p - 1] = data;
+        if random.percent(90) {
+            aim(random, &mut task.machine, code, data, &bytes);
         }
     }
     let pace = Pace { quantum: random.pick(&[1, 1, 2, 3, 1_000]), budget: random.between(0, 12) as u64 };
-    runner.tasks(ANY_INSTRUCTIONS, &mut tasks, &mut memory, pace, RIGHT)?;
+    let mut memory = Memory::with_any_sum(random, bytes);
+    runner.tasks(ANY_INSTRUCTIONS, &mut tasks, &mut memory, pace, Lengths::OF_TASKS)?;
     Ok(1)
 }
 
-/// An address for so many bytes: around a seam, in view, or partly in view.
+/// An address for so many bytes: around a seam, across the end of shared memory, in view, or partly in view.
 fn data(random: &mut Random, number: usize, bytes: usize) -> u32 {
-    match random.below(10) {
+    match random.below(14) {
         0..=5 => near(random, number),
         6 => in_view(random, bytes),
+        7..=10 => (SHARED - random.between(1, bytes.max(2) - 1)) as u32,
         _ => over_an_end_of_view(random, bytes),
     }
 }
@@ -136,11 +152,11 @@ fn any_code(random: &mut Random) -> u8 {
 /// A loop for each task, with a PAUSE in it or none, and budgets around whole turns.
 fn loops<R: Runner>(runner: &mut R, random: &mut Random) -> Result<u64, R::Failure> {
     let mut tasks = [(); TASKS].map(|()| Task { machine: Machine::fresh(), kept: kept(random) });
-    let mut memory = memory(random);
+    let mut bytes = bytes(random);
     for (number, task) in tasks.iter_mut().enumerate() {
         let start = random.pick(&[100 * number, part(number)]);
         let code = looping(random);
-        memory[start..start + code.len()].copy_from_slice(&code);
+        bytes[start..start + code.len()].copy_from_slice(&code);
         task.machine.program_counter = start as u32;
     }
     let any = random.between(1, 1_000) as u64;
@@ -149,7 +165,8 @@ fn loops<R: Runner>(runner: &mut R, random: &mut Random) -> Result<u64, R::Failu
         0 => MAX_BUDGET,
         _ => quantum * random.between(1, 9) as u64 + random.below(3) as u64 - 1,
     };
-    runner.tasks(LOOPS, &mut tasks, &mut memory, Pace { quantum, budget }, RIGHT)?;
+    let mut memory = Memory::with_any_sum(random, bytes);
+    runner.tasks(LOOPS, &mut tasks, &mut memory, Pace { quantum, budget }, Lengths::OF_TASKS)?;
     Ok(1)
 }
 
@@ -163,28 +180,38 @@ fn looping(random: &mut Random) -> Vec<u8> {
 /// Several runs of four tasks, one after another, in which the host changes a byte and makes some ready again.
 fn chain<R: Runner>(runner: &mut R, random: &mut Random) -> Result<u64, R::Failure> {
     let mut tasks = if random.percent(15) { [(); TASKS].map(|()| Task::fresh()) } else { good_tasks(random) };
-    let mut memory = memory(random);
+    let mut bytes = bytes(random);
     let arenas = [0, 1, 2, 3].map(|number| arena(random, number));
     for (task, arena) in tasks.iter_mut().zip(&arenas) {
         task.machine.program_counter = arena.address(random);
     }
-    let runs = random.between(1, 5) as u64;
-    for _ in 0..runs {
+    let mut runs = 0;
+    for _ in 0..random.between(1, 5) {
         let quantum = quantum(random);
         let tastes = [0, 1, 2, 3].map(|number| {
             let (_, style) = random.pick(&STYLES);
             Taste { style, arena: arenas[number], reach: Reach::Task(number) }
         });
-        let copy: Box<[u8; MEMORY]> = memory.clone().into_boxed_slice().try_into().expect("a memory's length");
+        let copy: Box<[u8; MEMORY]> = bytes.clone().into_boxed_slice().try_into().expect("a memory's length");
         let target = random.between(1, 200) as u64;
         let grown = Grower::new(random, copy, target).grow_turns(tasks.clone(), &tastes, quantum);
         for (address, byte) in grown.chosen {
-            memory[address] = byte;
+            bytes[address] = byte;
         }
-        let budget = budget(random, &tasks, &memory, quantum, grown.steps);
-        runner.tasks(CHAIN, &mut tasks, &mut memory, Pace { quantum, budget }, RIGHT)?;
+        let budget = budget(random, &tasks, &bytes, quantum, grown.steps);
+        let mut memory = Memory::with_any_sum(random, bytes);
+        for slice in slices(random, budget) {
+            match slice {
+                Some(budget) => {
+                    runner.tasks(CHAIN, &mut tasks, &mut memory, Pace { quantum, budget }, Lengths::OF_TASKS)?
+                }
+                None => wrong_call(runner, random, tasks.clone(), &mut memory)?,
+            }
+            runs += 1;
+        }
+        bytes = memory.bytes;
         let elsewhere = random.below(MEMORY);
-        memory[elsewhere] = random.byte();
+        bytes[elsewhere] = random.byte();
         for (task, arena) in tasks.iter_mut().zip(&arenas) {
             if !task.is_ready() && random.percent(60) {
                 task.kept = READY;
@@ -198,7 +225,7 @@ fn chain<R: Runner>(runner: &mut R, random: &mut Random) -> Result<u64, R::Failu
 /// Around where growth stopped; or a large one where every task leaves soon.
 fn budget(random: &mut Random, tasks: &[Task; TASKS], memory: &[u8], quantum: u64, grown: u64) -> u64 {
     let soon =
-        || run_tasks(&mut tasks.clone(), &mut memory.to_vec(), quantum, SOON, &mut ()).answer == Answer::Finished;
+        || run_tasks(&mut tasks.clone(), &mut memory.to_vec(), quantum, SOON, 0, &mut ()).answer == Answer::Finished;
     if random.percent(10) && soon() {
         return random.pick(&[MAX_BUDGET, MAX_BUDGET, SOON]);
     }

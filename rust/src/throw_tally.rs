@@ -83,7 +83,7 @@ mod tests {
         let mut machine = Machine { program_counter: 5, r: 1, s: 1, e, last_throw, ..Machine::fresh() };
         cells.iter().for_each(|&cell| machine.push(cell));
         let mut tally = ThrowTally::default();
-        run(&mut machine, &mut vec![code; MEMORY], 1, &mut tally);
+        run(&mut machine, &mut vec![code; MEMORY], 1, 0, &mut tally);
         tally.counts().into_iter().filter(|(_, count)| *count > 0).map(|(name, _)| name).collect()
     }
 

@@ -2,9 +2,9 @@
 //! seams between the parts of memory.
 
 use std::fmt;
-use std::ops::{Range, RangeInclusive};
+use std::ops::Range;
 
-use crate::counts::{grouped, seldom, Named};
+use crate::counts::{grouped, seldom, stretch, Named, Stretch};
 use crate::instruction_tally::InstructionTally;
 use crate::model::codes::PAUSE_CODE;
 use crate::model::observer::{Observer, Seen};
@@ -12,6 +12,7 @@ use crate::model::reach::{Reach, TASKS};
 use crate::model::state::{Answer, LastThrow, Machine, MEMORY};
 use crate::model::tasks::Task;
 use crate::model::turn::Turn;
+use crate::sum_tally::SumTally;
 use crate::task_chains::{Pace, ANSWERS_KEPT, KINDS};
 use crate::throw_tally::throws;
 use crate::touches::Touches;
@@ -38,8 +39,6 @@ const NEXT: [&str; 7] = [
     "first: task 0", "first: task 1", "first: task 2", "first: task 3",
     "the one after", "over others not ready", "the same again",
 ];
-
-type Stretch = (&'static str, RangeInclusive<u64>);
 
 const QUANTA: [Stretch; 7] = [
     ("0", 0..=0),
@@ -71,6 +70,7 @@ pub struct TurnTally {
     crossings: Named,
     throwers: Named,
     instructions: InstructionTally,
+    pub sums: SumTally,
     /// Of the instruction that is being tried.
     touches: Option<Touches>,
     last_code: u8,
@@ -100,6 +100,7 @@ impl Default for TurnTally {
             ),
             throwers: Named::new("THROW while another has a last throw, by the task's number", 0..TASKS),
             instructions: InstructionTally::default(),
+            sums: SumTally::in_turns(),
             touches: None,
             last_code: 0,
             before: None,
@@ -114,12 +115,6 @@ fn touched(address: usize, touch: &str) -> String {
 
 fn crossed(touch: &str, toucher: &str) -> String {
     format!("{touch} of {toucher}")
-}
-
-/// The name of the stretch in which a number lies.
-fn stretch(stretches: &[Stretch], number: u64) -> &'static str {
-    let named = stretches.iter().find(|(_, stretch)| stretch.contains(&number));
-    named.unwrap_or_else(|| panic!("{number} lies in no stretch")).0
 }
 
 impl TurnTally {
@@ -201,8 +196,8 @@ impl TurnTally {
     }
 
     /// The lists, with the columns and the width of each.
-    fn named(&self) -> [(&Named, usize, usize); 10] {
-        [
+    fn named(&self) -> Vec<(&Named, usize, usize)> {
+        let of_turns = [
             (&self.kinds, 3, 26),
             (&self.answers, 6, 10),
             (&self.kept, 6, 10),
@@ -213,7 +208,8 @@ impl TurnTally {
             (&self.seams, 3, 26),
             (&self.crossings, 3, 27),
             (&self.throwers, 6, 10),
-        ]
+        ];
+        [&of_turns[..], &self.sums.named()].concat()
     }
 }
 
@@ -221,6 +217,7 @@ impl Observer for TurnTally {
     fn trying(&mut self, reach: Reach, machine: &Machine, memory: &[u8; MEMORY]) {
         let Reach::Task(number) = reach else { return };
         self.instructions.trying(reach, machine, memory);
+        self.sums.trying(reach, machine, memory);
         let touches = Touches::of(number, machine, memory);
         self.saw_touch(number, &touches.code, "instruction");
         self.touches = Some(touches);
@@ -228,6 +225,7 @@ impl Observer for TurnTally {
 
     fn completed(&mut self, code: u8, before: Seen, after: Seen) {
         self.instructions.completed(code, before, after);
+        self.sums.completed(code, before, after);
         if throws(code, before) {
             self.saw_throw();
         }
@@ -237,6 +235,7 @@ impl Observer for TurnTally {
 
     fn refused(&mut self, code: u8, before: Seen, answer: Answer) {
         self.instructions.refused(code, before, answer);
+        self.sums.refused(code, before, answer);
     }
 
     fn turn_over(&mut self, number: usize, turn: Turn, quantum: u64, left: u64) {

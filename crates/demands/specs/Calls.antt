@@ -2,7 +2,7 @@
 use mathlib.Core.List.{List, [], _∷_}
 use mathlib.Core.Path.{_≡_}
 use Prim.Native.Nat.{ℕ, _+_}
-use Rattle.machine.specs.Run.{runOf}
+use Rattle.machine.specs.Sum.{runSummed}
 use Rattle.machine.specs.declared.Machine.{Machine}
 use Rattle.state.specs.Layout as layout
 use Rattle.state.specs.Lent.{Lent}
@@ -16,32 +16,32 @@ pub record Carries (state : List ℕ) (m : Machine) : Type 0 where
   pub spelled : layout.state .bytes m ≡ state
 
 -- a call ran the machine, and the bytes that it handed back carry the machine that the run left
-pub record Handled (memory : List ℕ) (budget : ℕ) (m : Machine) (handed : Lent) : Type 0 where
-  pub as-run : handed ≡ handedBack (runOf memory m budget)
-  pub bytes-carry : Carries (handed .state) (runOf memory m budget .ran .machine)
+pub record Handled (memory : List ℕ) (budget sum : ℕ) (m : Machine) (handed : Lent) : Type 0 where
+  pub as-run : handed ≡ handedBack (runSummed memory m budget sum)
+  pub bytes-carry : Carries (handed .state) (runSummed memory m budget sum .after .ran .machine)
 
--- each call meets the exported function's promise; the host hands the state's bytes on unaltered, with any memory, any budget and
--- any buffer for the counts
+-- each call meets the exported function's promise; the host hands the state's bytes on unaltered, with any memory, any budget, any
+-- sum and any buffer for the counts
 pub data Calls : List ℕ → List ℕ → Type 0 where
   over : {state : List ℕ} → Calls state state
-  host-call : {state end : List ℕ} {handed : Lent} (memory : List ℕ) (budget : ℕ) (result : List ℕ) → Hands state memory budget result handed
+  host-call : {state end : List ℕ} {handed : Lent} (memory : List ℕ) (budget sum : ℕ) (result : List ℕ) → Hands state memory budget sum result handed
       → Calls (handed .state) end → Calls state end
 
 -- the runs of the calls, with the steps and the cycles that they report, added up; a call with a buffer of another length runs nothing
 abbrev pub runsOf : {state end : List ℕ} → Calls state end → List Given
 runsOf over = []
-runsOf (host-call memory budget result (wrong-length other) rest) = runsOf rest
-runsOf (host-call memory budget result (run m all long fits is kept) rest) = record { memory = memory; budget = budget } ∷ runsOf rest
+runsOf (host-call memory budget sum result (wrong-length other) rest) = runsOf rest
+runsOf (host-call memory budget sum result (run m all long fits is kept) rest) = record { memory = memory; budget = budget; sum = sum } ∷ runsOf rest
 
 abbrev pub stepsReported : {state end : List ℕ} → Calls state end → ℕ
 stepsReported over = 0
-stepsReported (host-call memory budget result (wrong-length other) rest) = stepsReported rest
-stepsReported (host-call memory budget result (run m all long fits is kept) rest) = runOf memory m budget .ran .steps .0 + stepsReported rest
+stepsReported (host-call memory budget sum result (wrong-length other) rest) = stepsReported rest
+stepsReported (host-call memory budget sum result (run m all long fits is kept) rest) = runSummed memory m budget sum .after .ran .steps .0 + stepsReported rest
 
 abbrev pub cyclesReported : {state end : List ℕ} → Calls state end → ℕ
 cyclesReported over = 0
-cyclesReported (host-call memory budget result (wrong-length other) rest) = cyclesReported rest
-cyclesReported (host-call memory budget result (run m all long fits is kept) rest) = runOf memory m budget .ran .cycles .0 + cyclesReported rest
+cyclesReported (host-call memory budget sum result (wrong-length other) rest) = cyclesReported rest
+cyclesReported (host-call memory budget sum result (run m all long fits is kept) rest) = runSummed memory m budget sum .after .ran .cycles .0 + cyclesReported rest
 
 -- the history of these runs, from w to a machine that the last bytes carry, with as many steps and cycles as the calls report
 pub record OneHistory {state end : List ℕ} (calls : Calls state end) (w : World) : Type 0 where

@@ -7,7 +7,7 @@ use Rattle.machine.specs.Limits.{memoryLength}
 use Rattle.image.specs.Format.{Image, Spellable, spelled}
 use Rattle.image.specs.Loading.{Returned, loadedFrom, refusedWith}
 
--- the memory as it was, a fresh machine and budget 0
+-- the memory as it was, a fresh machine, budget 0 and sum 0
 pub record Untouched (before after : List ℕ) (returned : Returned) (answer : ℕ) : Type 0 where
   pub memory : after ≡ before
   pub refusal : returned ≡ refusedWith answer

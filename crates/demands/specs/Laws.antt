@@ -26,6 +26,8 @@ pub mod Stood
 pub mod Flag
 -- what two operations on cells leave
 pub mod Double
+-- what a good image fills
+pub mod Filled
 -- histories by computation
 pub mod Walks
 -- histories by computation in which the flag stays

@@ -12,6 +12,8 @@ pub mod One
 pub mod Sessions
 -- calls of the exported run on the same bytes
 pub mod Calls
+-- the memory sum through any number of runs
+pub mod Summed
 -- the loss of what a CATCH pushed, and when a machine is back where it was before
 pub mod Back
 -- so many steps ahead

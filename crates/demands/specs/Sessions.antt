@@ -3,20 +3,22 @@ use mathlib.Core.List.{List, [], _∷_}
 use mathlib.Core.Path.{_≡_, refl}
 use Prim.Native.Nat.{ℕ}
 use Rattle.machine.specs.Reach.{alone}
-use Rattle.machine.specs.Run.{After, runOf}
+use Rattle.machine.specs.Run.{After}
+use Rattle.machine.specs.Sum.{runSummed}
 use Rattle.demands.specs.History.{World, world, worldAfter, host, History, here, then, joined, stepsIn, cyclesIn, Unbroken, Under}
 
--- what the host hands in for a run, beside the machine: any memory and any budget
+-- what the host hands in for a run, beside the machine: any memory, any budget and any sum
 pub record Given : Type 0 where
   pub memory : List ℕ
   pub budget : ℕ
+  pub sum : ℕ
 
 -- where the run begins, with the machine of w unaltered, and what it leaves
 abbrev pub begun : World → Given → World
 begun w g = world (g .memory) (w .machine)
 
 abbrev pub ranBy : World → Given → After
-ranBy w g = runOf (g .memory) (w .machine) (g .budget)
+ranBy w g = runSummed (g .memory) (w .machine) (g .budget) (g .sum) .after
 
 -- what these runs leave, one after another
 abbrev pub worldAfterRuns : World → List Given → World

@@ -12,6 +12,8 @@ pub mod Handed
 pub mod Sessions
 -- demand 3 for hosts that hold a machine as bytes
 pub mod Calls
+-- the memory sum, from the reader on
+pub mod Summed
 -- a CATCH that nothing refuses is carried out
 pub mod Carried
 -- demand 3 on three starred cases

@@ -10,6 +10,9 @@ const ZERO: u8 = 0x20;
 
 const STORE: u8 = 0x2E;
 
+// What the bytes of that memory add up to; the store takes 142 off.
+const SUM: u64 = 1048590;
+
 // Whether the memory is as it was handed in.
 fn is_as_made(memory: &[u8]) -> bool {
     let mut i = 0;
@@ -29,11 +32,12 @@ fn is_as_made(memory: &[u8]) -> bool {
 }
 
 // One call, and what came of it. States are compared as their bytes.
-fn knock(name: &[u8], memory: &mut [u8], machine: Machine, budget: u32) {
+fn knock(name: &[u8], memory: &mut [u8], machine: Machine, budget: u32, sum: u64) {
     let mut before = [0u8; state::SIZE];
     let mut after = [0u8; state::SIZE];
     state::give(machine, &mut before);
-    let ran = run::run(memory, machine, budget);
+    let mut kept = sum;
+    let ran = run::run(memory, machine, budget, &mut kept);
     let left = ran.machine;
     let steps = ran.steps;
     let cycles = ran.cycles;
@@ -41,29 +45,38 @@ fn knock(name: &[u8], memory: &mut [u8], machine: Machine, budget: u32) {
     telling::numbers(name, ran.answer, steps, cycles);
     telling::kept(b", state ", check::same(&before, &after));
     telling::kept(b", memory ", is_as_made(memory));
+    telling::sum(kept);
     telling::end();
 }
 
-fn with_good_memory(name: &[u8], machine: Machine, budget: u32) {
+fn with_good_memory(name: &[u8], machine: Machine, budget: u32, sum: u64) {
     let mut memory = [ZERO; 32768];
     memory[2] = STORE;
-    knock(name, &mut memory, machine, budget);
+    knock(name, &mut memory, machine, budget, sum);
 }
 
 fn with_short_memory(name: &[u8]) {
     let mut memory = [ZERO; 32767];
     memory[2] = STORE;
-    knock(name, &mut memory, Machine::fresh(), 3);
+    knock(name, &mut memory, Machine::fresh(), 3, SUM);
 }
 
 fn with_long_memory(name: &[u8]) {
     let mut memory = [ZERO; 32769];
     memory[2] = STORE;
-    knock(name, &mut memory, Machine::fresh(), 3);
+    knock(name, &mut memory, Machine::fresh(), 3, SUM);
+}
+
+fn with_budget(name: &[u8], budget: u32) {
+    with_good_memory(name, Machine::fresh(), budget, SUM);
+}
+
+fn with_sum(name: &[u8], sum: u64) {
+    with_good_memory(name, Machine::fresh(), 3, sum);
 }
 
 fn with_state(name: &[u8], machine: Machine) {
-    with_good_memory(name, machine, 3);
+    with_good_memory(name, machine, 3, SUM);
 }
 
 fn main() {
@@ -73,8 +86,12 @@ fn main() {
         b"last throw 4294967295",
         states::noting(0xFFFFFFFF, 0xFFFFFFFF),
     );
-    with_good_memory(b"budget 1000000", Machine::fresh(), 1000000);
-    with_good_memory(b"budget 1000001", Machine::fresh(), 1000001);
+    with_budget(b"budget 1000000", 1000000);
+    with_budget(b"budget 1000001", 1000001);
+    with_sum(b"sum 8355840", 8355840);
+    with_sum(b"sum 8355841", 8355841);
+    with_sum(b"sum 0", 0);
+    with_sum(b"a sum that 32 bits do not hold", 0x100000000 + SUM);
     with_short_memory(b"memory of 32767");
     with_long_memory(b"memory of 32769");
     with_state(b"P 65", states::pointing(65, 0, 0, 0, 0));

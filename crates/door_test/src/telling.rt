@@ -22,6 +22,11 @@ pub(crate) fn kept(what: &[u8], same: bool) {
     }
 }
 
+pub(crate) fn sum(number: u64) {
+    io::write_all(STDOUT_FILENO, b", sum ");
+    io::print_decimal(STDOUT_FILENO, number);
+}
+
 pub(crate) fn end() {
     io::write_all(STDOUT_FILENO, b"\n");
 }

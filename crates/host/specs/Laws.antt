@@ -2,5 +2,5 @@
 pub mod Budget
 -- no second answer
 pub mod Only
--- what was read is what the next run takes
+-- what was read is what the next run takes, with its sum
 pub mod Taken

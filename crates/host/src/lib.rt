@@ -18,16 +18,17 @@ fn narrowed(budget: u64) -> u32
     budget as u32
 }
 
-// Runs a machine that a host holds as bytes, and hands it back the same way. Both buffers of its own are measured first,
+// Runs a machine that a host holds as bytes, with the sum of its memory, and hands both back, the sum in the result. Both buffers of its own are measured first,
 // so that a call that answers 2 touches nothing.
 #[no_mangle]
 pub extern "C" fn glidecotton_run_state(
     state: &mut [u8],
     memory: &mut [u8],
     budget: u64,
+    sum: u64,
     result: &mut [u8],
 ) -> u64
-    ensures { λ r. ⌜ Hands (now (state .entry)) (now (memory .entry)) budget (now (result .entry)) (record { number = r; state = now (state .exit); memory = now (memory .exit); result = now (result .exit) }) ⌝ }
+    ensures { λ r. ⌜ Hands (now (state .entry)) (now (memory .entry)) budget sum (now (result .entry)) (record { number = r; state = now (state .exit); memory = now (memory .exit); result = now (result .exit) }) ⌝ }
 {
     if result.len() != state::RESULT {
         return 2;
@@ -38,11 +39,12 @@ pub extern "C" fn glidecotton_run_state(
         return 2;
     };
     let machine = taken.machine;
-    let ran = run::run(memory, machine, narrowed(budget));
+    let mut kept = sum;
+    let ran = run::run(memory, machine, narrowed(budget), &mut kept);
     let after = ran.machine;
     let steps = ran.steps;
     let cycles = ran.cycles;
     state::give(after, state);
-    state::give_counts(ran.answer, steps, cycles, result);
+    state::give_counts(ran.answer, steps, cycles, kept, result);
     0
 }

@@ -10,10 +10,12 @@ use Rattle.numbers.specs.Laws.Lists.{length-list-at}
 use Rattle.machine.specs.declared.Machine.{Machine}
 use Rattle.machine.specs.State.{freshMachine, machineWith}
 use Rattle.machine.specs.Limits.{memoryLength}
+use Rattle.machine.specs.Sum.{sumOf}
+use Rattle.machine.specs.Laws.Sum.{sum-padded}
 use Rattle.links.specs.Depths.{cellsDepth}
 use Rattle.plain.specs.Zeros.{padded}
 use Rattle.image.specs.Format.{budgetOf, cellWidth}
-use Rattle.image.specs.Loading.{Returned, Read, wrong-memory, not-spelled, read, loadedFrom, refusedWith, otherMemory}
+use Rattle.image.specs.Loading.{Returned, Read, wrong-memory, not-spelled, read, filled, loadedFrom, refusedWith, otherMemory}
 use Rattle.image.specs.Judging.{badFile, finds, saysJudged, valuesIn, judgedOf}
 use Rattle.image.specs.Laws.Section.{elements-inside}
 use Rattle.image.specs.Laws.Sound.{GoodFile, imageIn, good-file, image-spellable, image-spells}
@@ -40,31 +42,34 @@ module _ (file : List ℕ) (spans : Spans) (good : GoodFile file spans) where
 -- what is placed is the image
 module _ (file : List ℕ) (spans : Spans) where
   pub memory-placed : (before after : List ℕ) → length before ≡ memoryLength → after ≡ padded (length before) (valuesIn file Memory (spans .memory))
-      → after ≡ padded memoryLength (imageIn file spans .memory)
+      → after ≡ filled (imageIn file spans)
   unfolding imageIn
   memory-placed before after long e = e ∙ ap (λ (size : ℕ). padded size (valuesIn file Memory (spans .memory))) long
 
-  pub machine-placed : (fresh : Machine) (cells : List ℕ) (budget : ℕ) → fresh ≡ freshMachine → cells ≡ padded cellsDepth (valuesIn file Cells (spans .cells))
-      → budget ≡ budgetOf (valuesIn file Budget (spans .budget))
+  pub machine-placed : (fresh : Machine) (cells : List ℕ) (budget sum : ℕ) → fresh ≡ freshMachine → cells ≡ padded cellsDepth (valuesIn file Cells (spans .cells))
+      → budget ≡ budgetOf (valuesIn file Budget (spans .budget)) → sum ≡ sumOf (valuesIn file Memory (spans .memory))
       → _≡_ {A = Returned}
       (record {
         says = gives tt;
         machine = record { cells = cells; p = spans .cells .count; links = fresh .links; counter = fresh .counter; flag = fresh .flag; thrown = fresh .thrown };
         budget = budget;
+        sum = sum;
       })
       (loadedFrom (imageIn file spans))
   unfolding imageIn machineWith loadedFrom freshMachine
-  machine-placed fresh cells budget f c b =
+  machine-placed fresh cells budget sum f c b s =
       let p : length (valuesIn file Cells (spans .cells)) ≡ spans .cells .count = length-list-at cellWidth (spans .cells .count) file (spans .cells .from) in
+      let zeros : sum ≡ sumOf (filled (imageIn file spans)) = s ∙ sym (sum-padded memoryLength (valuesIn file Memory (spans .memory))) in
       λ t. record {
         says = gives tt;
         machine = record { cells = c t; p = sym p t; links = f t .links; counter = f t .counter; flag = f t .flag; thrown = f t .thrown };
         budget = b t;
+        sum = zeros t;
       }
 
 -- the promise of a good file
 pub good-answer : (file before after : List ℕ) (returned : Returned) (spans : Spans) → Bytes file → length before ≡ memoryLength → judgedOf file ≡ finds spans
-    → after ≡ padded memoryLength (imageIn file spans .memory) → returned ≡ loadedFrom (imageIn file spans) → Read file before after returned
+    → after ≡ filled (imageIn file spans) → returned ≡ loadedFrom (imageIn file spans) → Read file before after returned
 good-answer file before after returned spans bytes long h m l =
     let good = good-file file spans h in
     subst₂ (λ (x : List ℕ) (y : Returned). Read file before x y) (sym m) (sym l)

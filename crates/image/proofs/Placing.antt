@@ -1,4 +1,4 @@
--- Laws of the loops that place zeros and cells.
+-- Laws of the loops that place zeros and cells, and that add up bytes.
 use mathlib.Core.List.{List, [], _∷_, _++_, append-assoc, append-nil}
 use mathlib.Core.Path.{_≡_, refl, sym, ap, _∙_}
 use Prim.Native.Nat.{ℕ, zero, suc, _+_, _-_, _*_, _≤_, _<_}
@@ -11,6 +11,8 @@ use Rattle.numbers.specs.Bytes.{byteAt, numberAt}
 use Rattle.numbers.specs.Lists.{listAt}
 use Rattle.numbers.specs.Laws.Lists.{length-list-at}
 use Rattle.plain.specs.Zeros.{padded}
+use Rattle.machine.specs.Sum.{sumOf}
+use Rattle.machine.specs.Laws.Sum.{sum-append}
 use Rattle.image.specs.Format.{budgetOf, cellWidth}
 
 one-zero-more : (j : ℕ) (ys : List ℕ) → replicate j 0 ++ 0 ∷ ys ≡ replicate (j + 1) 0 ++ ys
@@ -95,6 +97,17 @@ bytes-read file at (suc n) h =
     ap (λ (l : List ℕ). byteAt file at ∷ l) (bytes-read file (at + 1) n (omega arith))
     ∙ ap (λ (k : ℕ). byteAt file at ∷ take n (drop k file)) (add-one at)
     ∙ ap (take (suc n)) (sym (drop-cons file at 0 (omega arith)))
+
+-- and added up, one byte more in a pass
+pub byte-added : (file : List ℕ) (at i sum : ℕ) → sum ≡ sumOf (listAt 1 i file at) → sum + byteAt file (at + i) ≡ sumOf (listAt 1 (i + 1) file at)
+unfolding sumOf
+byte-added file at i sum e =
+    let one : 1 * i ≡ i = omega arith in
+    let more : listAt 1 (i + 1) file at ≡ listAt 1 i file at ++ (byteAt file (at + i) ∷ []) =
+    ap (λ (n : ℕ). listAt 1 n file at) (add-one i) ∙ list-more 1 file at i ∙ ap (λ (k : ℕ). listAt 1 i file at ++ (byteAt file (at + k) ∷ [])) one in
+    let both = sum-append (listAt 1 i file at) (byteAt file (at + i) ∷ []) in
+    let last = ap sumOf more in
+    omega (arith, both, last)
 
 -- the budget of a file that gives one
 pub first-budget : (file : List ℕ) (at n : ℕ) → (n ≡ 0 → ⊥) → budgetOf (listAt cellWidth n file at) ≡ numberAt cellWidth file at

@@ -11,6 +11,8 @@ pub mod Faults
 pub mod Cases
 -- no second answer
 pub mod Only
+-- the memory sum that is handed out
+pub mod Sum
 -- the one answer as a computation
 pub mod Computed
 -- document 01's sample, and the default budget

@@ -69,11 +69,12 @@ pub enum Verdict {
     Refused(u32),
 }
 
-// What the reader returns: after a refusal the machine is fresh and the budget 0.
+// What the reader returns, with the sum of the memory that it filled: after a refusal the machine is fresh, and budget and sum are 0.
 pub struct Loaded {
     pub verdict: Verdict,
     pub machine: Machine,
     pub budget: u32,
+    pub sum: u64,
 }
 
 // The answer to a memory of another length.
@@ -90,6 +91,7 @@ fn refused(number: u32) -> Loaded
         verdict: Verdict::Refused(number),
         machine,
         budget: 0,
+        sum: 0,
     }
 }
 

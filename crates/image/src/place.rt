@@ -11,9 +11,10 @@ ghost use Prim.Native.Nat.{_+_, _*_, _≤_};
 ghost use lib.ListN.{length};
 ghost use Rattle.plain.specs.Zeros.{padded};
 ghost use Rattle.machine.specs.Limits.{memoryLength};
+ghost use Rattle.machine.specs.Sum.{sumOf};
 ghost use Rattle.links.specs.Depths.{cellsDepth};
 ghost use Rattle.image.specs.Format.{cellWidth};
-ghost use Rattle.image.specs.Loading.{returned, loadedFrom};
+ghost use Rattle.image.specs.Loading.{returned, filled, loadedFrom};
 ghost use Rattle.image.specs.Judging.{valuesIn};
 ghost use Rattle.image.specs.Laws.Sound.{GoodFile, imageIn};
 
@@ -33,6 +34,20 @@ fn memory_bytes(file: &[u8], span: Span, memory: &mut [u8])
         memory[i] = 0;
         i += 1;
     }
+}
+
+// What the file's memory bytes add up to, and so the memory that they fill: the zeros behind them add nothing.
+fn added_up(file: &[u8], span: Span) -> u64
+    requires { ⌜ (span .from + span .count ≤ length (now file)) × (span .count ≤ memoryLength) ⌝ }
+    ensures { λ r. ⌜ r ≡ sumOf (valuesIn (now (file .entry)) Section.Memory span) ⌝ }
+{
+    let from = span.from;
+    let count = span.count;
+    let mut sum: u64 = 0;
+    for i in 0..count {
+        sum += file[from + i] as u64;
+    }
+    sum
 }
 
 // The cells, and zeros above them.
@@ -55,11 +70,12 @@ fn cells(file: &[u8], span: Span) -> [u32; Machine::CELLS]
 // read later, it would be a number that the compiler does not know to be judged, and a branch around a machine (docs/SPEED.md).
 pub(crate) fn image(file: &[u8], spans: Spans, memory: &mut [u8]) -> Loaded
     requires { ⌜ GoodFile (now file) spans × (length (now memory) ≡ memoryLength) ⌝ }
-    ensures { λ r. ⌜ (now (memory .exit) ≡ padded memoryLength (imageIn (now (file .entry)) spans .memory)) × (returned r ≡ loadedFrom (imageIn (now (file .entry)) spans)) ⌝ }
+    ensures { λ r. ⌜ (now (memory .exit) ≡ filled (imageIn (now (file .entry)) spans)) × (returned r ≡ loadedFrom (imageIn (now (file .entry)) spans)) ⌝ }
 {
     let last = spans.budget;
     let budget = sections::budget_in(file, last);
     let bytes = spans.memory;
+    let sum = added_up(file, bytes);
     memory_bytes(file, bytes, memory);
     let stack = spans.cells;
     let placed = cells(file, stack);
@@ -70,5 +86,6 @@ pub(crate) fn image(file: &[u8], spans: Spans, memory: &mut [u8]) -> Loaded
         verdict: Verdict::Good,
         machine,
         budget,
+        sum,
     }
 }

@@ -61,3 +61,9 @@ pub mod TasksTaken
 pub mod Pairs
 -- no second answer of a run of tasks
 pub mod OnlyTasks
+-- a memory of bytes stays one
+pub mod StillBytes
+-- the memory sum: stores, runs one after another, the greatest
+pub mod Sum
+-- a run with a sum
+pub mod Summed

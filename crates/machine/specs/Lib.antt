@@ -1,4 +1,4 @@
--- the memory's length and the budget's limit
+-- the memory's length, the budget's limit and the greatest memory sum
 pub mod Limits
 -- who may touch which byte
 pub mod Reach
@@ -22,6 +22,8 @@ pub mod Step
 pub mod Run
 -- four tasks, in turns
 pub mod Tasks
+-- the memory sum beside a run
+pub mod Sum
 -- the starred lines of the bench sheet
 pub mod Sheet
 -- where a THROW of non-zero goes on, what S, R and P then are, and what it notes

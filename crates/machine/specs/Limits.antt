@@ -1,4 +1,4 @@
--- The memory's length and the budget's limit: document 01, "The machine" and "Steps and clock cycles".
+-- The memory's length, the budget's limit and the greatest memory sum: document 01, "The machine" and "Steps and clock cycles".
 use Prim.Native.Nat.{ℕ}
 
 abbrev pub memoryLength : ℕ
@@ -20,3 +20,7 @@ mostQuantum = 1000
 
 abbrev pub mostBudget : ℕ
 mostBudget = 1000000
+
+-- request P9: the greatest sum of a memory, all of whose bytes are FF
+abbrev pub mostSum : ℕ
+mostSum = 8355840

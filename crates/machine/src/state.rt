@@ -20,6 +20,9 @@ impl Machine {
 
     pub const BUDGET: u32 = 1000000;
 
+    // The greatest sum that the bytes of the memory can have.
+    pub const SUM: u64 = 8355840;
+
     // A fresh machine has every number zero.
     pub fn fresh() -> Machine
         ensures { λ r. ⌜ r ≡ freshMachine ⌝ }

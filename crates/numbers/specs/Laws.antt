@@ -4,6 +4,8 @@ pub mod Powers
 pub mod Bytes
 -- Writing: what is then read there, and what stays elsewhere.
 pub mod Writing
+-- Bytes stored one after another.
+pub mod Storing
 -- Lists of numbers: the same for each of them.
 pub mod Lists
 -- Bytes written among the bytes of a list of numbers.

@@ -1,13 +1,15 @@
-// The reader for hosts in other languages: an image in, a machine and a budget out, as bytes. It stands apart from the run of such
-// a machine, so that each of the two exported functions has all that it calls compiled into it.
+// The reader for hosts in other languages: an image in, a machine, a budget and a memory sum out, as bytes. It stands apart from the run
+// of such a machine, so that each of the two exported functions has all that it calls compiled into it.
 ghost use Rattle.reader.specs.Reads.{Reads};
 
-// What stands in the result: the budget, in 8 bytes.
+// What stands in the result: the budget and the sum of the memory that was filled, in 8 bytes each.
 const RESULT_BUDGET: usize = 0;
 
-const RESULT: usize = RESULT_BUDGET + 8;
+const RESULT_SUM: usize = RESULT_BUDGET + 8;
 
-// Reads an image into the lent memory, and hands out the machine and the budget. State and result are measured
+const RESULT: usize = RESULT_SUM + 8;
+
+// Reads an image into the lent memory, and hands out the machine, the budget and the memory sum. State and result are measured
 // first and the file is judged whole, so that only a call that answers 0 touches anything.
 #[no_mangle]
 pub extern "C" fn glidecotton_read_image(
@@ -32,5 +34,6 @@ pub extern "C" fn glidecotton_read_image(
     let machine = loaded.machine;
     state::give(machine, state);
     numbers::write_eight(result, RESULT_BUDGET, loaded.budget as u64);
+    numbers::write_eight(result, RESULT_SUM, loaded.sum);
     0
 }

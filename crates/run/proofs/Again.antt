@@ -14,19 +14,20 @@ use Rattle.links.specs.declared.Frame.{Frame}
 use Rattle.links.specs.declared.Level.{Level}
 use Rattle.machine.specs.Limits.{tasksCount}
 use Rattle.machine.specs.State.{noThrow}
+use Rattle.machine.specs.Sum.{sumOf}
 use Rattle.machine.specs.declared.LastThrow.{LastThrow}
 use Rattle.machine.specs.declared.Machine.{Machine}
 use Rattle.run.specs.Machines.{linksOf}
-use Rattle.run.specs.Levels.{tabulated, copiesRoom, rowsCount, framesIn, levelsIn, noteIn, Laid, Hold, AllLaid, pointersOf, inRows}
+use Rattle.run.specs.Levels.{tabulated, copiesRoom, rowsCount, framesIn, levelsIn, Note, noteIn, Laid, Hold, lossesIn, AllLaid, pointersOf, inRows}
 use Rattle.run.specs.declared.Pointers.{Pointers}
 
-pub whole-again : (m : Machine) {rows : List (List ℕ)} {copies : List ℕ} → Hold rows copies (m .links .frames) (m .links .levels) (m .thrown) → {at : Pointers} → at ≡ pointersOf m →
+pub whole-again : (m : Machine) {rows : List (List ℕ)} {copies : List ℕ} {lost : ℕ} → Hold rows copies (m .links .frames) (m .links .levels) (record { thrown = m .thrown; lost = lost }) → {at : Pointers} → at ≡ pointersOf m →
     inRows (m .cells) (m .links .returns) rows copies at ≡ m
 whole-again m {rows} {copies} held e =
     ap (λ (at : Pointers). inRows (m .cells) (m .links .returns) rows copies at) e ∙
-    (ap (λ (frames : List Frame). with-levels frames (levelsIn rows copies) (noteIn rows)) (held .frames-are) ∙
-    (ap (λ (levels : List Level). with-levels (m .links .frames) levels (noteIn rows)) (held .levels-are) ∙
-    ap (with-levels (m .links .frames) (m .links .levels)) (held .note-is)))
+    (ap (λ (frames : List Frame). with-levels frames (levelsIn rows copies) (noteIn rows .thrown)) (held .frames-are) ∙
+    (ap (λ (levels : List Level). with-levels (m .links .frames) levels (noteIn rows .thrown)) (held .levels-are) ∙
+    ap (λ (note : Note). with-levels (m .links .frames) (m .links .levels) (note .thrown)) (held .note-is)))
   where
     with-levels : List Frame → List Level → LastThrow → Machine
     with-levels frames levels thrown =
@@ -52,10 +53,19 @@ zeros-laid =
       cells-fit = λ e h. rw (getD-replicate rowsCount (framesCount + e) (replicate {A = ℕ} (suc localsCount) 0) [] (omega arith)) (zeros-fit levelCells);
     }
 
-pub zeros-fresh : Hold zeroRows zeroCopies (freshLinks .frames) (freshLinks .levels) noThrow
+pub zeros-fresh : Hold zeroRows zeroCopies (freshLinks .frames) (freshLinks .levels) (record { thrown = noThrow; lost = 0 })
 unfolding framesIn levelsIn noteIn tabulated freshLinks freshFrame freshLevel noLocals
 zeros-fresh = record { laid = zeros-laid; frames-are = refl; levels-are = refl; note-is = refl }
+
+pub no-loss : noteIn zeroRows .lost ≡ 0
+unfolding noteIn
+no-loss = refl
 
 -- and rows of zeros for each of four
 pub all-zeros-laid : AllLaid (replicate tasksCount zeroRows) (replicate tasksCount zeroCopies)
 all-zeros-laid t h = rw (getD-replicate tasksCount t zeroRows [] h, getD-replicate tasksCount t zeroCopies [] h) zeros-laid
+
+-- and nothing is lost
+pub no-losses : sumOf (lossesIn (replicate tasksCount zeroRows)) ≡ 0
+unfolding sumOf lossesIn tabulated noteIn
+no-losses = refl

@@ -37,7 +37,8 @@ use Rattle.run.specs.Answers.{stepBy}
 use Rattle.run.specs.Machines.{inReach, linksOf}
 use Rattle.run.specs.Promises.{CarriesOut, Spells, Unaltered}
 use Rattle.run.specs.Registers.{machineIn, movedTo, haltedBy}
-use Rattle.run.specs.Levels.{framesIn, levelsIn, noteIn, seen, Hold, HoldSeen}
+use Rattle.run.specs.Losses.{OneOf, IsStore}
+use Rattle.run.specs.Levels.{framesIn, levelsIn, Note, noteIn, seen, Hold, HoldSeen}
 use Rattle.run.specs.Verdicts.{pushable, readable, callable, catchable, throwable, exitable, sAfterPop, eAfterDropOf, eAfterPop}
 use Rattle.run.specs.declared.Registers.{Registers}
 use Rattle.run.specs.declared.Stack.{Stack}
@@ -47,32 +48,23 @@ use Rattle.run.proofs.Answered.{Acts, last-check, one-check, two-checks
 use Rattle.run.proofs.Drops.{positive, drop-same, pop-s, pop-e}
 use Rattle.run.proofs.Rounds.{Round, Found, ends}
 
--- one of three codes
-abbrev pub OneOf : ℕ → ℕ → ℕ → ℕ → Type 0
-OneOf a b d code = (code ≡ a) ⊎ ((code ≡ b) ⊎ (code ≡ d))
-
 fetch-spelled : (code : ℕ) → OneOf 0x2D 0x2F 0x31 code → Spells code (FETCH (widthOf code)) 1
 unfolding entryAt table
 fetch-spelled code (inl e) = record { known = rw e; names = rw e; asks = rw e }
 fetch-spelled code (inr (inl e)) = record { known = rw e; names = rw e; asks = rw e }
 fetch-spelled code (inr (inr e)) = record { known = rw e; names = rw e; asks = rw e }
 
-store-spelled : (code : ℕ) → OneOf 0x2E 0x30 0x32 code → Spells code (STORE (widthOf code)) 2
+store-spelled : (code : ℕ) → IsStore code → Spells code (STORE (widthOf code)) 2
 unfolding entryAt table
 store-spelled code (inl e) = record { known = rw e; names = rw e; asks = rw e }
 store-spelled code (inr (inl e)) = record { known = rw e; names = rw e; asks = rw e }
 store-spelled code (inr (inr e)) = record { known = rw e; names = rw e; asks = rw e }
 
--- the whole of a cell is reached by the long ones alone
+-- the whole of a cell is reached by the long one alone
 pub long-fetch : (code : ℕ) → OneOf 0x2D 0x2F 0x31 code → size (widthOf code) ≡ 4 → code ≡ 0x2D
 long-fetch code (inl e) h = e
 long-fetch code (inr (inl e)) h = let short : size (widthOf code) ≡ 2 = ap (λ (c : ℕ). size (widthOf c)) e in absurd (omega arith)
 long-fetch code (inr (inr e)) h = let short : size (widthOf code) ≡ 1 = ap (λ (c : ℕ). size (widthOf c)) e in absurd (omega arith)
-
-pub long-store : (code : ℕ) → OneOf 0x2E 0x30 0x32 code → size (widthOf code) ≡ 4 → code ≡ 0x2E
-long-store code (inl e) h = e
-long-store code (inr (inl e)) h = let short : size (widthOf code) ≡ 2 = ap (λ (c : ℕ). size (widthOf c)) e in absurd (omega arith)
-long-store code (inr (inr e)) h = let short : size (widthOf code) ≡ 1 = ap (λ (c : ℕ). size (widthOf c)) e in absurd (omega arith)
 
 throw-spelled : (code : ℕ) → code ≡ 0x0D → Spells code (LINK THROW) 1
 unfolding entryAt table
@@ -97,17 +89,17 @@ divided : (b : Bool) → decided (Lack-discrete (pick b aReturnCell nothing) aDi
 divided true = refl
 divided false = refl
 
--- levels and a THROW that stand in rows
-pub held-there : {mem cells returns : List ℕ} {rows : List (List ℕ)} {copies : List ℕ} {frames : List Frame} {levels : List Level} {thrown : LastThrow} {p r s e counter flag cost : ℕ} →
-    Hold rows copies frames levels thrown →
-    done mem (record { cells = cells; p = p; links = linksOf returns r frames s levels e; counter = counter; flag = flag; thrown = thrown }) cost ≡
-    done mem (record { cells = cells; p = p; links = linksOf returns r (framesIn rows copies) s (levelsIn rows copies) e; counter = counter; flag = flag; thrown = noteIn rows }) cost
-held-there {mem} {cells} {returns} {rows} {copies} {frames} {levels} {thrown} {p} {r} {s} {e} {counter} {flag} {cost} held =
-    ap (λ (f : List Frame). left f levels thrown) (sym (held .frames-are)) ∙ ap (λ (l : List Level). left (framesIn rows copies) l thrown) (sym (held .levels-are)) ∙
+-- levels and a note that stand in rows
+pub held-there : {mem cells returns : List ℕ} {rows : List (List ℕ)} {copies : List ℕ} {frames : List Frame} {levels : List Level} {note : Note} {p r s e counter flag cost : ℕ} →
+    Hold rows copies frames levels note →
+    done mem (record { cells = cells; p = p; links = linksOf returns r frames s levels e; counter = counter; flag = flag; thrown = note .thrown }) cost ≡
+    done mem (record { cells = cells; p = p; links = linksOf returns r (framesIn rows copies) s (levelsIn rows copies) e; counter = counter; flag = flag; thrown = noteIn rows .thrown }) cost
+held-there {mem} {cells} {returns} {rows} {copies} {frames} {levels} {note} {p} {r} {s} {e} {counter} {flag} {cost} held =
+    ap (λ (f : List Frame). left f levels note) (sym (held .frames-are)) ∙ ap (λ (l : List Level). left (framesIn rows copies) l note) (sym (held .levels-are)) ∙
     ap (left (framesIn rows copies) (levelsIn rows copies)) (sym (held .note-is))
   where
-    left : List Frame → List Level → LastThrow → Stepped
-    left f l t = done mem (record { cells = cells; p = p; links = linksOf returns r f s l e; counter = counter; flag = flag; thrown = t }) cost
+    left : List Frame → List Level → Note → Stepped
+    left f l n = done mem (record { cells = cells; p = p; links = linksOf returns r f s l e; counter = counter; flag = flag; thrown = n .thrown }) cost
 
 module _ {reach : Reach} {inTurns : Bool} {mem₀ : List ℕ} {m₀ : Machine} {budget : ℕ} {mem cells returns : List ℕ} {frames : List Frame} {levels : List Level} {thrown : LastThrow} {g : Registers}
     {code operand next : ℕ} (found : Found reach inTurns mem₀ m₀ budget mem cells returns frames levels thrown g code operand next)
@@ -331,13 +323,13 @@ module _ {reach : Reach} {inTurns : Bool} {mem₀ : List ℕ} {m₀ : Machine} {
         storedBy w (Memory a) ≡ done mem′ (machineIn cells returns frames levels thrown lowered) (cyclesOf code)
     written-there w a e = ap (λ (l : List ℕ). done l (machineIn cells returns frames levels thrown lowered) (cyclesOf code)) (sym e)
 
-    pub kept-whole : (w : Width) (a value : ℕ) → size w ≡ 4 → {rows : List (List ℕ)} {copies : List ℕ} →
-        HoldSeen rows copies frames levels thrown (g .s) (g .e) (overwritten (seen frames levels (g .s) (g .e)) a (bytesOf 4 value)) →
-        HoldSeen rows copies frames levels thrown (g .s) (g .e) (overwritten (seen frames levels (g .s) (g .e)) a (bytesOf (size w) value))
-    kept-whole w a value long {rows} {copies} held =
-        subst⁻¹ (λ (n : ℕ). HoldSeen rows copies frames levels thrown (g .s) (g .e) (overwritten (seen frames levels (g .s) (g .e)) a (bytesOf n value))) long held
+    pub kept-whole : (w : Width) (a value : ℕ) → size w ≡ 4 → {rows : List (List ℕ)} {copies : List ℕ} {note : Note} →
+        HoldSeen rows copies frames levels note (g .s) (g .e) (overwritten (seen frames levels (g .s) (g .e)) a (bytesOf 4 value)) →
+        HoldSeen rows copies frames levels note (g .s) (g .e) (overwritten (seen frames levels (g .s) (g .e)) a (bytesOf (size w) value))
+    kept-whole w a value long {rows} {copies} {note} held =
+        subst⁻¹ (λ (n : ℕ). HoldSeen rows copies frames levels note (g .s) (g .e) (overwritten (seen frames levels (g .s) (g .e)) a (bytesOf n value))) long held
 
-    pub store-acts : OneOf 0x2E 0x30 0x32 code → Does (reachOf reach 2 (widthOf code) cells (g .p)) (storedBy (widthOf code))
+    pub store-acts : IsStore code → Does (reachOf reach 2 (widthOf code) cells (g .p)) (storedBy (widthOf code))
     unfolding carried rowOf reachOf spotOf barOf
     store-acts key = record { on = none-is key (λ h. omega arith) (λ h. omega arith) (λ h. omega arith); is = go (ltb (g .p) 2) refl (placeOf (widthOf code) (getD cells (g .p - 1) 0)) refl }
       where

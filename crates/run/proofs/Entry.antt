@@ -1,21 +1,23 @@
--- The door: a memory, state or budget that is not as asked is answered 2, anything else is run.
-use mathlib.Core.Path.{_≡_, ap, sym, _∙_, subst⁻¹}
+-- The door: a memory, state, budget or sum that is not as asked is answered 2, anything else is run.
+use mathlib.Core.Path.{_≡_, refl, ap, sym, _∙_, subst, subst⁻¹}
 use mathlib.Core.Bool.{Bool, true, false}
 use mathlib.Core.List.{List}
 use Prim.Native.Nat.{ℕ, _≤_, _<_}
 use native.Mathlib.Omega.{arith}
-use borrow.Author.Tests.{eq-eqb, ne-eqb, le-leb, lt-leb}
-use lib.Dec.{leb}
+use borrow.Author.Tests.{eq-eqb, ne-eqb, le-leb, lt-leb, leb-false}
+use lib.Dec.{leb, T, leb→le}
 use lib.ListN.{length}
 use Rattle.plain.specs.Choice.{both}
+use Rattle.plain.specs.Laws.Choice.{both-parts, is-true}
 use Rattle.links.specs.Depths.{cellsDepth}
 use Rattle.links.specs.Fresh.{freshLinks}
 use Rattle.links.specs.Linked.{linked}
-use Rattle.machine.specs.Limits.{memoryLength, mostBudget, mostQuantum, tasksCount}
+use Rattle.machine.specs.Limits.{memoryLength, mostBudget, mostQuantum, mostSum, tasksCount}
 use Rattle.machine.specs.Reach.{alone}
 use Rattle.machine.specs.State.{wellFormed}
 use Rattle.machine.specs.Run.{After, afterOf, runFrom, runOf, acceptable}
-use Rattle.machine.specs.Tasks.{allGood, tasksAcceptable, RunsTasks, declined, tasksIn, tasksAfterOf}
+use Rattle.machine.specs.Sum.{sumAfter, summedOf, runSummed, RunsTasksSummed, sum-declined, sum-taken}
+use Rattle.machine.specs.Tasks.{allGood, tasksAcceptable, TasksAfter, RunsTasks, declined, tasksIn, tasksAfterOf}
 use Rattle.machine.specs.declared.Machine.{Machine}
 use Rattle.machine.specs.declared.Ran.{Ran}
 use Rattle.machine.specs.declared.Tasks.{Tasks}
@@ -24,6 +26,7 @@ use Rattle.run.specs.Machines.{ranOf}
 use Rattle.run.specs.Clocks.{ranTasksOf}
 use Rattle.machine.specs.State.{freshWith}
 use Rattle.machine.specs.Laws.Pairs.{paired-length}
+use Rattle.machine.specs.Laws.Sum.{sum-stays}
 
 module _ (mem : List ℕ) (m : Machine) (budget : ℕ) where
   pub wrong-length : (length mem ≡ memoryLength → ⊥) → acceptable mem m budget ≡ false
@@ -48,6 +51,29 @@ module _ (mem : List ℕ) (m : Machine) (budget : ℕ) where
   pub taken : acceptable mem m budget ≡ true → (after : After) → after ≡ runFrom alone false budget mem m 0 0 → after ≡ runOf mem m budget
   unfolding runOf
   taken good after e = rw (good, runOf) e
+
+  -- the same with the memory sum beside it: a sum that is too great, one that a refusal hands back, and one that a run moves
+  module _ (sum : ℕ) where
+    pub sum-above : mostSum < sum → (ran : Ran) → ran ≡ ranOf 2 (record { 0 = 0 }) (record { 0 = 0 }) m → summedOf (afterOf mem ran) sum ≡ runSummed mem m budget sum
+    unfolding runSummed
+    sum-above above ran e = rw (lt-leb sum mostSum above, runSummed) (ap (λ (r : Ran). summedOf (afterOf mem r) sum) e)
+
+    pub sum-moved : sum ≤ mostSum → (after : After) → after ≡ runOf mem m budget → {left : ℕ} → left ≡ sumAfter sum mem (after .memory) →
+        summedOf after left ≡ runSummed mem m budget sum
+    unfolding runSummed
+    sum-moved low after e el =
+        rw (le-leb sum mostSum low, runSummed)
+        (ap (summedOf after) (el ∙ ap (λ (a : After). sumAfter sum mem (a .memory)) e) ∙ ap (λ (a : After). summedOf a (sumAfter sum mem (runOf mem m budget .memory))) e)
+
+    pub sum-kept : (ran : Ran) → ran ≡ ranOf 2 (record { 0 = 0 }) (record { 0 = 0 }) m → acceptable mem m budget ≡ false →
+        summedOf (afterOf mem ran) sum ≡ runSummed mem m budget sum
+    sum-kept ran e bad = by-test (leb sum mostSum) refl
+      where
+        by-test : (t : Bool) → leb sum mostSum ≡ t → summedOf (afterOf mem ran) sum ≡ runSummed mem m budget sum
+        by-test true low =
+            let within : sum ≤ mostSum = leb→le sum mostSum (subst T (sym low) tt) in
+            sum-moved within (afterOf mem ran) (run-declined bad ran e) (sym (sum-stays sum mem (omega (arith, within))))
+        by-test false above = sum-above (leb-false sum mostSum above) ran e
 
 -- a machine that is fresh but for its parameter cells is well formed where they are within their depth
 module _ (cells : List ℕ) (p : ℕ) where
@@ -100,7 +126,33 @@ module _ (mem : List ℕ) (tasks : Tasks) (quantum budget : ℕ) where
             eq-eqb (length (tasksIn tasks)) tasksCount (paired-length (tasks .machines) (tasks .kept) fm fk),
           ) (sym eb ∙ e)
 
-  -- answer 2 alters nothing
-  pub tasks-declined : Acceptable false → {handed : RanTasks} → handed ≡ ranTasksOf 2 (record { 0 = 0 }) (record { 0 = 0 }) tasks →
-      RunsTasks mem (tasksIn tasks) quantum budget (tasksAfterOf mem handed)
-  tasks-declined bad e = subst⁻¹ (λ (r : RanTasks). RunsTasks mem (tasksIn tasks) quantum budget (tasksAfterOf mem r)) e (declined bad)
+  -- the sum is tested beside the rest
+  module _ (sum : ℕ) where
+    abbrev Summed : TasksAfter → ℕ → Type 0
+    Summed end left = RunsTasksSummed mem (tasksIn tasks) quantum budget sum end left
+
+    pub sums-parted : both (leb sum mostSum) (tasksAcceptable mem (tasksIn tasks) quantum budget) ≡ true →
+        ((leb sum mostSum ≡ true) × (sum ≤ mostSum)) × Acceptable true
+    sums-parted e =
+        let t = both-parts (leb sum mostSum) (tasksAcceptable mem (tasksIn tasks) quantum budget) (subst T (sym e) tt) in
+        ((is-true (leb sum mostSum) (t .0), leb→le sum mostSum (t .0)), is-true (tasksAcceptable mem (tasksIn tasks) quantum budget) (t .1))
+
+    pub tasks-summed : leb sum mostSum ≡ true → {end : TasksAfter} → RunsTasks mem (tasksIn tasks) quantum budget end → {left : ℕ} → left ≡ sumAfter sum mem (end .memory) →
+        Summed end left
+    tasks-summed low {end} runs e = subst⁻¹ (Summed end) e (sum-taken low runs)
+
+    -- answer 2 alters nothing
+    pub tasks-declined : both (leb sum mostSum) (tasksAcceptable mem (tasksIn tasks) quantum budget) ≡ false →
+        {handed : RanTasks} → handed ≡ ranTasksOf 2 (record { 0 = 0 }) (record { 0 = 0 }) tasks → Summed (tasksAfterOf mem handed) sum
+    tasks-declined bad e =
+        subst⁻¹ (λ (r : RanTasks). Summed (tasksAfterOf mem r) sum) e (by-test (leb sum mostSum) refl)
+      where
+        end : TasksAfter
+        end = tasksAfterOf mem (ranTasksOf 2 (record { 0 = 0 }) (record { 0 = 0 }) tasks)
+
+        by-test : (t : Bool) → leb sum mostSum ≡ t → Summed end sum
+        by-test true low =
+            let within : sum ≤ mostSum = leb→le sum mostSum (subst T (sym low) tt) in
+            let refused : Acceptable false = ap (λ (b : Bool). both b (tasksAcceptable mem (tasksIn tasks) quantum budget)) (sym low) ∙ bad in
+            tasks-summed low (declined refused) (sym (sum-stays sum mem (omega (arith, within))))
+        by-test false above = sum-declined above

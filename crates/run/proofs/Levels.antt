@@ -1,8 +1,8 @@
--- Levels and the last THROW in rows: what a store to a row or to the copies makes of them.
+-- Levels, and the note behind them, in rows: what a store to a row or to the copies makes of them.
 use mathlib.Core.Logic.{_≢_}
 use mathlib.Core.Path.{_≡_, refl, ap, sym, _∙_, subst⁻¹}
 use mathlib.Core.List.{List, [], _∷_}
-use Prim.Native.Nat.{ℕ, zero, suc, _+_, _<_}
+use Prim.Native.Nat.{ℕ, zero, suc, _+_, _%_, _^_, _<_}
 use native.Mathlib.Omega.{arith}
 use lib.ListN.{getD, set, take, length, length-set, replicate}
 use lib.Seq.{getD-set-same, getD-set-other, set-set, take-set-lt, take-set-le}
@@ -12,10 +12,9 @@ use Rattle.links.specs.Fits.{CellFits}
 use Rattle.links.specs.Linked.{noFrame, noLevel, copyOfR, copyOfS, copyOfP}
 use Rattle.links.specs.declared.Frame.{Frame}
 use Rattle.links.specs.declared.Level.{Level}
-use Rattle.machine.specs.declared.LastThrow.{LastThrow}
 use Rattle.plain.specs.All.{All}
 use Rattle.plain.specs.Laws.All.{all-at, all-set, all-replicate}
-use Rattle.run.specs.Levels.{frameOf, levelOf, copiesRoom, noteRow, rowsCount, framesIn, levelsIn, noteIn, Laid, Hold}
+use Rattle.run.specs.Levels.{frameOf, levelOf, copiesRoom, noteRow, rowsCount, framesIn, levelsIn, Note, noteIn, Laid, Hold}
 use Rattle.run.proofs.Tabled.{length-tabulated, tabulated-at, tabulated-same, tabulated-set}
 
 -- a row as wide as a level and its address
@@ -142,7 +141,7 @@ module _ (rows : List (List ℕ)) (copies : List ℕ) (laid : Laid rows copies) 
         cells-fit = λ e less. either CellsFit rows (framesCount + n) row (framesCount + e) [] fit (laid .cells-fit e less);
       }
 
-  -- a store to a level leaves the THROW
+  -- a store to a level leaves the note
   note-kept : (n : ℕ) (row : List ℕ) → n < noteRow → noteIn (set rows n row) ≡ noteIn rows
   unfolding noteIn
   note-kept n row h = rw (getD-set-other rows n noteRow row [] (λ e. omega arith))
@@ -268,43 +267,69 @@ module _ (rows : List (List ℕ)) (copies : List ℕ) (laid : Laid rows copies) 
       rw (up, beside)
       (record { laid = put .laid; frames-are = put .frames-are; levels-are = put .levels-are ∙ ap (λ (l : Level). set (levelsIn rows copies) (e + 1) l) made; note-is = put .note-is })
 
-  -- a THROW is noted behind the levels
+  -- a store to the row behind the levels leaves them
+  module _ (row : List ℕ) (wide : length row ≡ suc localsCount) where
+    pub note-there : getD (set rows noteRow row) noteRow [] ≡ row
+    note-there = getD-set-same rows noteRow row [] (omega (arith, laid .rows-long))
+
+    behind : {note : Note} → noteIn (set rows noteRow row) ≡ note → Hold (set rows noteRow row) copies (framesIn rows copies) (levelsIn rows copies) note
+    behind note-is =
+        record {
+          laid =
+              record {
+                rows-long = length-set rows noteRow row ∙ laid .rows-long;
+                rows-wide = all-set Wide rows (laid .rows-wide) noteRow row wide;
+                copies-long = laid .copies-long;
+                locals-fit = λ s less. subst⁻¹ LocalsFit (getD-set-other rows noteRow s row [] (λ same. omega arith)) (laid .locals-fit s less);
+                cells-fit = λ e less. subst⁻¹ CellsFit (getD-set-other rows noteRow (framesCount + e) row [] (λ same. omega arith)) (laid .cells-fit e less);
+              };
+          frames-are = frames-same rows copies (set rows noteRow row) copies (λ i less. getD-set-other rows noteRow i row [] (λ e. omega arith)) (λ i less. refl);
+          levels-are =
+              levels-same rows copies (set rows noteRow row) copies (λ i less. getD-set-other rows noteRow (framesCount + i) row [] (λ e. omega arith)) (λ i less. refl)
+              (λ i less. refl);
+          note-is = note-is;
+        }
+
+  -- a THROW is noted there
   pub note-made : (address code : ℕ) →
       let once = set rows noteRow (set (getD rows noteRow []) 0 address) in
-      Hold (set once noteRow (set (getD once noteRow []) 1 code)) copies (framesIn rows copies) (levelsIn rows copies) (record { address = address; code = code })
+      Hold (set once noteRow (set (getD once noteRow []) 1 code)) copies (framesIn rows copies) (levelsIn rows copies)
+      (record { thrown = record { address = address; code = code }; lost = noteIn rows .lost })
   unfolding noteIn
   note-made address code =
       let old = getD rows noteRow [] in
       let first = set old 0 address in
       let row = set first 1 code in
-      let rows′ = set rows noteRow row in
       let within : noteRow < length rows = omega (arith, laid .rows-long) in
       let wide : length old ≡ suc localsCount = wide-at noteRow (omega arith) in
       let wider : length first ≡ suc localsCount = length-set old 0 address ∙ wide in
-      let there : getD rows′ noteRow [] ≡ row = getD-set-same rows noteRow row [] within in
+      let widest : length row ≡ suc localsCount = length-set first 1 code ∙ wider in
       let noted : getD row 0 0 ≡ address = getD-set-other first 1 0 code 0 (λ e. omega arith) ∙ getD-set-same old 0 address 0 (omega (arith, wide)) in
       let coded : getD row 1 0 ≡ code = getD-set-same first 1 code 0 (omega (arith, wider)) in
-      rw (set-in rows noteRow first 1 code within)
-      (record {
-        laid =
-            record {
-              rows-long = length-set rows noteRow row ∙ laid .rows-long;
-              rows-wide = all-set Wide rows (laid .rows-wide) noteRow row (length-set first 1 code ∙ wider);
-              copies-long = laid .copies-long;
-              locals-fit = λ s less. subst⁻¹ LocalsFit (getD-set-other rows noteRow s row [] (λ same. omega arith)) (laid .locals-fit s less);
-              cells-fit = λ e less. subst⁻¹ CellsFit (getD-set-other rows noteRow (framesCount + e) row [] (λ same. omega arith)) (laid .cells-fit e less);
-            };
-        frames-are = frames-same rows copies rows′ copies (λ i less. getD-set-other rows noteRow i row [] (λ e. omega arith)) (λ i less. refl);
-        levels-are =
-            levels-same rows copies rows′ copies (λ i less. getD-set-other rows noteRow (framesCount + i) row [] (λ e. omega arith)) (λ i less. refl) (λ i less. refl);
-        note-is = rw (there, noted, coded);
-      })
+      let lost : getD row 2 0 ≡ getD old 2 0 = getD-set-other first 1 2 code 0 (λ e. omega arith) ∙ getD-set-other old 0 2 address 0 (λ e. omega arith) in
+      rw (set-in rows noteRow first 1 code within) (behind row widest (rw (note-there row widest, noted, coded, lost)))
+
+  -- and what the memory lost
+  pub loss-made : (value more : ℕ) → value ≡ (noteIn rows .lost + more) % 2 ^ 32 →
+      Hold (set rows noteRow (set (getD rows noteRow []) 2 value)) copies (framesIn rows copies) (levelsIn rows copies)
+      (record { thrown = noteIn rows .thrown; lost = (noteIn rows .lost + more) % 2 ^ 32 })
+  unfolding noteIn
+  loss-made value more e =
+      let old = getD rows noteRow [] in
+      let row = set old 2 value in
+      let lost = (getD old 2 0 + more) % 2 ^ 32 in
+      let wide : length old ≡ suc localsCount = wide-at noteRow (omega arith) in
+      let wider : length row ≡ suc localsCount = length-set old 2 value ∙ wide in
+      let address : getD row 0 0 ≡ getD old 0 0 = getD-set-other old 2 0 value 0 (λ e. omega arith) in
+      let code : getD row 1 0 ≡ getD old 1 0 = getD-set-other old 2 1 value 0 (λ e. omega arith) in
+      let here : getD row 2 0 ≡ lost = getD-set-same old 2 value 0 (omega (arith, wide)) ∙ e in
+      behind row wider (rw (note-there row wider, address, code, here))
 
 -- a CATCH does all that a call does first
-pub caught-above : {rows rows′ : List (List ℕ)} {copies copies′ : List ℕ} {frames : List Frame} {levels : List Level} {thrown : LastThrow} (e s p address : ℕ) →
-    Hold rows copies frames levels thrown →
+pub caught-above : {rows rows′ : List (List ℕ)} {copies copies′ : List ℕ} {frames : List Frame} {levels : List Level} {note : Note} (e s p address : ℕ) →
+    Hold rows copies frames levels note →
     Hold rows′ copies′ (framesIn rows copies) (set (levelsIn rows copies) (e + 1) (record { cells = getD (levelsIn rows copies) e noLevel .cells; s = s; p = p; address = address })) (noteIn rows) →
-    Hold rows′ copies′ frames (set levels (e + 1) (record { cells = getD levels e noLevel .cells; s = s; p = p; address = address })) thrown
+    Hold rows′ copies′ frames (set levels (e + 1) (record { cells = getD levels e noLevel .cells; s = s; p = p; address = address })) note
 caught-above e s p address call catch =
     record {
       laid = catch .laid;

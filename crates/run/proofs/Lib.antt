@@ -12,6 +12,7 @@ mod Unknown
 mod Places
 mod Written
 mod Lent
+mod Losses
 -- tests of the code as the definition's own
 mod Rules
 -- what an answer means for the step, and what it tells of the pointers

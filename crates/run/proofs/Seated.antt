@@ -97,10 +97,10 @@ module _ {quantum budget : ℕ} {start : Between} {mem kept : List ℕ} {cells r
             }
 
         module _ {reach : Reach} (er : reach ≡ task t) {mem′ cells′ returns′ : List ℕ} {rows′ : List (List ℕ)} {copies′ : List ℕ} {g : Registers}
-            (ends : Ends reach true mem (taskIn cells returns rows copies saved t) turn mem′ cells′ returns′ rows′ copies′ g)
+            {lost : ℕ} (ends : Ends reach true mem (taskIn cells returns rows copies saved t) turn lost mem′ cells′ returns′ rows′ copies′ g)
           where
             abbrev ran : Ran
-            ran = ranOf (g .answer) (record { 0 = turn - g .unspent .0 }) (g .cycles) (machineIn cells′ returns′ (framesIn rows′ copies′) (levelsIn rows′ copies′) (noteIn rows′) g)
+            ran = ranOf (g .answer) (record { 0 = turn - g .unspent .0 }) (g .cycles) (machineIn cells′ returns′ (framesIn rows′ copies′) (levelsIn rows′ copies′) (noteIn rows′ .thrown) g)
 
             same-run : afterOf mem′ ran ≡ runFrom reach true turn mem (getD machines t noMachine) 0 0
             same-run = ends .same ∙ ap (λ (m : Machine). runFrom reach true turn mem m 0 0) (sym there)

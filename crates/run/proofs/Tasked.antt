@@ -37,7 +37,7 @@ module _ (cells returns : List (List ℕ)) (rows : List (List (List ℕ))) (copi
 module _ {cells returns : List (List ℕ)} {rows : List (List (List ℕ))} {copies : List (List ℕ)} {saved : List Pointers} (seats : Seats cells returns rows copies saved) (t : ℕ)
     (h : t < tasksCount) (cells′ returns′ : List ℕ) (row : List (List ℕ)) (copy : List ℕ) (at : Pointers)
   where
-    rows-there : getD (set rows t row) t [] ≡ row
+    pub rows-there : getD (set rows t row) t [] ≡ row
     rows-there = getD-set-same rows t row [] (reached rows t _ (seats .laid t h .rows-long))
 
     copies-there : getD (set copies t copy) t [] ≡ copy
@@ -97,8 +97,8 @@ module _ (machines : List Machine) (cells returns : List (List ℕ)) (rows : Lis
     pub apart-all : tasksCount ≤ t → machinesIn cells returns rows copies saved ≡ machines
     apart-all over = filled-all tasksCount machines (machinesIn cells returns rows copies saved) t (now .filled) over
 
-    pub apart-next : t < tasksCount → (row : List (List ℕ)) (copy : List ℕ) (at : Pointers) →
-        Hold row copy (getD machines t noMachine .links .frames) (getD machines t noMachine .links .levels) (getD machines t noMachine .thrown) → at ≡ pointersOf (getD machines t noMachine) →
+    pub apart-next : t < tasksCount → (row : List (List ℕ)) (copy : List ℕ) (at : Pointers) {lost : ℕ} →
+        Hold row copy (getD machines t noMachine .links .frames) (getD machines t noMachine .links .levels) (record { thrown = getD machines t noMachine .thrown; lost = lost }) → at ≡ pointersOf (getD machines t noMachine) →
         Apart machines (set cells t (getD machines t noMachine .cells)) (set returns t (getD machines t noMachine .links .returns)) (set rows t row) (set copies t copy)
         (set saved t at) (t + 1)
     apart-next h row copy at held is =

@@ -47,15 +47,21 @@ framesIn rows copies = tabulated framesCount (frameOf rows copies)
 unfoldable pub levelsIn : List (List ℕ) → List ℕ → List Level
 levelsIn rows copies = tabulated levelsCount (levelOf rows copies)
 
--- the last THROW stands in a row behind those of the levels: its address, then its code
+-- what stands in a row behind those of the levels: the last THROW, its address and then its code; and what the memory lost, modulo 2^32
+pub record Note : Type 0 where
+  pub thrown : LastThrow
+  pub lost : ℕ
+
 abbrev pub noteRow : ℕ
 noteRow = framesCount + levelsCount
 
 abbrev pub rowsCount : ℕ
 rowsCount = noteRow + 1
 
-unfoldable pub noteIn : List (List ℕ) → LastThrow
-noteIn rows = record { address = getD (getD rows noteRow []) 0 0; code = getD (getD rows noteRow []) 1 0 }
+unfoldable pub noteIn : List (List ℕ) → Note
+noteIn rows =
+    let row = getD rows noteRow [] in
+    record { thrown = record { address = getD row 0 0; code = getD row 1 0 }; lost = getD row 2 0 }
 
 -- the lists are as long as the arrays that they stand for, and the cells of every level are numbers of 32 bits
 pub record Laid (rows : List (List ℕ)) (copies : List ℕ) : Type 0 where
@@ -65,12 +71,12 @@ pub record Laid (rows : List (List ℕ)) (copies : List ℕ) : Type 0 where
   pub locals-fit : (s : ℕ) → s < framesCount → All CellFits (take localsCount (getD rows s []))
   pub cells-fit : (e : ℕ) → e < levelsCount → All CellFits (take levelCells (getD rows (framesCount + e) []))
 
--- rows and copies that hold these levels and this THROW
-pub record Hold (rows : List (List ℕ)) (copies : List ℕ) (frames : List Frame) (levels : List Level) (thrown : LastThrow) : Type 0 where
+-- rows and copies that hold these levels and this note
+pub record Hold (rows : List (List ℕ)) (copies : List ℕ) (frames : List Frame) (levels : List Level) (note : Note) : Type 0 where
   pub laid : Laid rows copies
   pub frames-are : framesIn rows copies ≡ frames
   pub levels-are : levelsIn rows copies ≡ levels
-  pub note-is : noteIn rows ≡ thrown
+  pub note-is : noteIn rows ≡ note
 
 -- how many cells are in view
 abbrev pub viewCells : ℕ
@@ -80,10 +86,10 @@ viewCells = localsCount + levelCells
 abbrev pub seen : List Frame → List Level → ℕ → ℕ → List ℕ
 seen frames levels s e = getD frames s noFrame .locals ++ getD levels e noLevel .cells
 
-abbrev pub HoldSeen : List (List ℕ) → List ℕ → List Frame → List Level → LastThrow → ℕ → ℕ → List ℕ → Type 0
-HoldSeen rows copies frames levels thrown s e cells =
+abbrev pub HoldSeen : List (List ℕ) → List ℕ → List Frame → List Level → Note → ℕ → ℕ → List ℕ → Type 0
+HoldSeen rows copies frames levels note s e cells =
     Hold rows copies (set frames s (withLocals (take localsCount cells) (getD frames s noFrame)))
-    (set levels e (withCells (drop localsCount cells) (getD levels e noLevel))) thrown
+    (set levels e (withCells (drop localsCount cells) (getD levels e noLevel))) note
 
 -- the same of rows, and of rows that come after them
 abbrev pub seenIn : List (List ℕ) → List ℕ → ℕ → ℕ → List ℕ
@@ -108,8 +114,12 @@ inRows cells returns rows copies at =
       links = linksOf returns (at .r) (framesIn rows copies) (at .s) (levelsIn rows copies) (at .e);
       counter = at .counter;
       flag = at .flag;
-      thrown = noteIn rows;
+      thrown = noteIn rows .thrown;
     }
+
+-- what the memory lost by the stores of each of four machines
+unfoldable pub lossesIn : List (List (List ℕ)) → List ℕ
+lossesIn rows = tabulated tasksCount (λ t. noteIn (getD rows t []) .lost)
 
 -- what a read past an array's end gives: every number zero
 abbrev pub noPointers : Pointers

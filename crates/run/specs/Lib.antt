@@ -10,6 +10,8 @@ pub mod Operations
 pub mod Registers
 -- a machine with a row of numbers for each level
 pub mod Levels
+-- what the memory loses by a store
+pub mod Losses
 -- what a run of tasks counts
 pub mod Clocks
 -- what the functions on the parameter cells and the fetch promise

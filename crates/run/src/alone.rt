@@ -4,6 +4,7 @@ use crate::Registers;
 use crate::linked;
 use crate::parts;
 use crate::round;
+use crate::sums;
 use machine::CYCLES;
 use machine::Cycles;
 use machine::Machine;
@@ -14,6 +15,8 @@ ghost use mathlib.Core.Path.{_≡_};
 ghost use mathlib.Core.Bool.{true, false};
 ghost use mathlib.Core.List.{List};
 ghost use Prim.Native.Nat.{ℕ, _-_, _≤_};
+ghost use Rattle.machine.specs.Limits.{mostSum};
+ghost use Rattle.machine.specs.Sum.{sumAfter};
 ghost use Rattle.machine.specs.Reach.{alone};
 ghost use Rattle.machine.specs.Run.{acceptable, runFrom, afterOf};
 ghost use Rattle.machine.specs.Run as run;
@@ -60,16 +63,16 @@ fn finished(
     budget: u32,
 ) -> Ran
     requires { ⌜ (regs .unspent .0 ≤ budget) × Laid (now rows) (now copies) ⌝ }
-    ensures { λ ran. ⌜ ((mem : List ℕ) → afterOf mem ran ≡ run.ended (regs .answer) mem (machineIn (now (cells .entry)) (now (returns .entry)) (framesIn (now (rows .entry)) (now (copies .entry))) (levelsIn (now (rows .entry)) (now (copies .entry))) (noteIn (now (rows .entry))) regs) (budget - regs .unspent .0) (regs .cycles .0)) ⌝ }
+    ensures { λ ran. ⌜ ((mem : List ℕ) → afterOf mem ran ≡ run.ended (regs .answer) mem (machineIn (now (cells .entry)) (now (returns .entry)) (framesIn (now (rows .entry)) (now (copies .entry))) (levelsIn (now (rows .entry)) (now (copies .entry))) (noteIn (now (rows .entry)) .thrown) regs) (budget - regs .unspent .0) (regs .cycles .0)) ⌝ }
 {
     let machine = parts::whole(cells, returns, rows, copies, parts::left_in(regs));
     let cycles = regs.cycles;
     ended(regs.answer, Steps(budget - regs.unspent.0), cycles, machine)
 }
 
-pub(crate) fn any(mem: &mut [u8], machine: Machine, budget: u32) -> Ran
-    requires { ⌜ acceptable (now mem) machine budget ≡ true ⌝ }
-    ensures { λ ran. ⌜ afterOf (now (mem .exit)) ran ≡ runFrom alone false budget (now (mem .entry)) machine 0 0 ⌝ }
+pub(crate) fn any(mem: &mut [u8], machine: Machine, budget: u32, sum: &mut u64) -> Ran
+    requires { ⌜ (acceptable (now mem) machine budget ≡ true) × (now sum ≤ mostSum) ⌝ }
+    ensures { λ ran. ⌜ (afterOf (now (mem .exit)) ran ≡ runFrom alone false budget (now (mem .entry)) machine 0 0) × (now (sum .exit) ≡ sumAfter (now (sum .entry)) (now (mem .entry)) (now (mem .exit))) ⌝ }
 {
     let costs = CYCLES;
     let links = machine.links;
@@ -92,6 +95,7 @@ pub(crate) fn any(mem: &mut [u8], machine: Machine, budget: u32) -> Ran
         ALONE,
         false,
     );
+    *sum = sums::less(*sum, linked::lost(&rows));
     finished(&cells, &returns, &rows, &copies, regs, budget)
 }
 

@@ -5,7 +5,10 @@ ghost use mathlib.Core.Path.{_≡_};
 ghost use mathlib.Core.Bool.{true};
 ghost use mathlib.Core.List.{List};
 ghost use Prim.Native.Nat.{ℕ};
+ghost use lib.Dec.{leb};
 ghost use lib.ListN as list;
+ghost use Rattle.plain.specs.Choice.{both};
+ghost use Rattle.machine.specs.Limits.{mostSum};
 ghost use Rattle.machine.specs.State.{wellFormed, Whole};
 ghost use Rattle.machine.specs.Tasks.{taskOf, tasksIn, canKeep, taskGood, allGood, AllWhole, tasksAcceptable};
 
@@ -65,9 +68,18 @@ fn tasks(tasks: Tasks) -> bool
 
 // What a run of tasks takes, in one function, so that one way leads to the refusal: with a way for each test the compiler keeps more
 // at hand in every turn.
-pub(crate) fn tasks_acceptable(length: usize, four: Tasks, quantum: u32, budget: u32) -> bool
-    ensures { λ b. ⌜ ((mem : List ℕ) → list.length mem ≡ length → b ≡ tasksAcceptable mem (tasksIn four) quantum budget) × (b ≡ true → AllWhole (tasksIn four)) ⌝ }
+pub(crate) fn tasks_acceptable(
+    length: usize,
+    four: Tasks,
+    quantum: u32,
+    budget: u32,
+    sum: u64,
+) -> bool
+    ensures { λ b. ⌜ ((mem : List ℕ) → list.length mem ≡ length → b ≡ both (leb sum mostSum) (tasksAcceptable mem (tasksIn four) quantum budget)) × (b ≡ true → AllWhole (tasksIn four)) ⌝ }
 {
+    if Machine::SUM < sum {
+        return false;
+    }
     if length != Machine::MEMORY {
         return false;
     }

@@ -14,6 +14,7 @@ mod memory;
 mod parts;
 mod price;
 mod round;
+mod sums;
 mod tally;
 mod taskrows;
 mod ticks;
@@ -28,13 +29,14 @@ use machine::Steps;
 use machine::Tasks;
 ghost use mathlib.Core.Path.{_≡_};
 ghost use Rattle.machine.specs.Run.{runOf, afterOf};
-ghost use Rattle.machine.specs.Tasks.{RunsTasks, tasksIn, tasksAfterOf};
+ghost use Rattle.machine.specs.Sum.{summedOf, runSummed, RunsTasksSummed};
+ghost use Rattle.machine.specs.Tasks.{tasksIn, tasksAfterOf};
 ghost use Rattle.machine.specs.State.{freshWith};
 
-// Runs a machine on a lent memory of any length, under a budget of any number of steps. Memory of another length than
-// 32,768, a budget above 1,000,000 or a state that is not well formed answers 2 and alters nothing.
-pub fn run(mem: &mut [u8], machine: Machine, budget: u32) -> Ran
-    ensures { λ ran. ⌜ afterOf (now (mem .exit)) ran ≡ runOf (now (mem .entry)) machine budget ⌝ }
+// Runs a machine on a lent memory of any length, under a budget of any number of steps, with a lent memory sum. Memory of another length
+// than 32,768, a budget above 1,000,000, a sum above 8,355,840 or a state that is not well formed answers 2 and alters nothing.
+pub fn run(mem: &mut [u8], machine: Machine, budget: u32, sum: &mut u64) -> Ran
+    ensures { λ ran. ⌜ summedOf (afterOf (now (mem .exit)) ran) (now (sum .exit)) ≡ runSummed (now (mem .entry)) machine budget (now (sum .entry)) ⌝ }
 {
     if mem.len() != Machine::MEMORY {
         return alone::ended(2, Steps(0), Cycles(0), machine);
@@ -42,13 +44,16 @@ pub fn run(mem: &mut [u8], machine: Machine, budget: u32) -> Ran
     if Machine::BUDGET < budget {
         return alone::ended(2, Steps(0), Cycles(0), machine);
     }
+    if Machine::SUM < *sum {
+        return alone::ended(2, Steps(0), Cycles(0), machine);
+    }
     if formed::well_formed(machine) {
-        return alone::any(mem, machine, budget);
+        return alone::any(mem, machine, budget, sum);
     }
     alone::ended(2, Steps(0), Cycles(0), machine)
 }
 
-// The same for a machine that is fresh but for its parameter cells, as an image spells it.
+// The same for a machine that is fresh but for its parameter cells, as an image spells it, where nobody asks for the sum.
 pub fn run_fresh(mem: &mut [u8], cells: [u32; Machine::CELLS], p: usize, budget: u32) -> Ran
     ensures { λ ran. ⌜ afterOf (now (mem .exit)) ran ≡ runOf (now (mem .entry)) (freshWith cells p) budget ⌝ }
 {
@@ -65,13 +70,14 @@ pub fn run_fresh(mem: &mut [u8], cells: [u32; Machine::CELLS], p: usize, budget:
 }
 
 // Runs four tasks on a lent memory of any length, in turns of at most a quantum of steps, under a budget of any number of steps
-// for all of them. Memory of another length than 32,768, a budget above 1,000,000, a quantum that is not 1 to 1,000, a state
-// that is not well formed or a kept number that no task can have answers 2 and alters nothing.
-pub fn run_tasks(mem: &mut [u8], tasks: Tasks, quantum: u32, budget: u32) -> RanTasks
-    ensures { λ ran. ⌜ RunsTasks (now (mem .entry)) (tasksIn tasks) quantum budget (tasksAfterOf (now (mem .exit)) ran) ⌝ }
+// for all of them, with a lent memory sum that serves all. Memory of another length than 32,768, a budget above 1,000,000, a quantum that
+// is not 1 to 1,000, a sum above 8,355,840, a state that is not well formed or a kept number that no task can have answers 2 and alters
+// nothing.
+pub fn run_tasks(mem: &mut [u8], tasks: Tasks, quantum: u32, budget: u32, sum: &mut u64) -> RanTasks
+    ensures { λ ran. ⌜ RunsTasksSummed (now (mem .entry)) (tasksIn tasks) quantum budget (now (sum .entry)) (tasksAfterOf (now (mem .exit)) ran) (now (sum .exit)) ⌝ }
 {
-    if formed::tasks_acceptable(mem.len(), tasks, quantum, budget) {
-        return turns::turns(mem, tasks, quantum, budget);
+    if formed::tasks_acceptable(mem.len(), tasks, quantum, budget, *sum) {
+        return turns::turns(mem, tasks, quantum, budget, sum);
     }
     turns::ended(2, Steps(0), Cycles(0), tasks)
 }

@@ -1,5 +1,5 @@
 // The subroutine and the exception levels as the loop has them: a row of numbers for each level, its cells and its address; the last
-// THROW in a row behind them; and the copies of R, S and P beside. No array of structs can be lent (docs/DECISIONS.md), and each
+// THROW and what the memory lost in a row behind them; and the copies of R, S and P beside. No array of structs can be lent (docs/DECISIONS.md), and each
 // further array costs a turn four to six instructions.
 use links::Frame;
 use links::Level;
@@ -7,7 +7,7 @@ use links::Links;
 use machine::LastThrow;
 ghost use mathlib.Core.List.{List};
 ghost use mathlib.Core.Path.{_≡_};
-ghost use Prim.Native.Nat.{ℕ, _+_, _*_, _<_};
+ghost use Prim.Native.Nat.{ℕ, _+_, _*_, _%_, _^_, _<_};
 ghost use lib.ListN.{getD, set};
 ghost use Rattle.numbers.specs.Bytes.{numberAt, bytesOf};
 ghost use Rattle.links.specs.Actions.{calledFrame};
@@ -16,7 +16,7 @@ ghost use Rattle.links.specs.Linked.{noFrame, noLevel, copyOfR, copyOfS, copyOf
 ghost use Rattle.machine.specs.View.{bytesOfCells, overwritten};
 ghost use Rattle.run.specs.Levels.{framesIn, levelsIn, noteIn, seenIn, Laid, Hold, Keep};
 
-// The row of the last THROW stands behind those of the subroutine levels and of the exception levels.
+// The row of the last THROW and of what the memory lost stands behind those of the subroutine levels and of the exception levels.
 const NOTE: usize = Links::FRAMES + Links::LEVELS;
 
 pub(crate) const ROWS: usize = NOTE + 1;
@@ -63,7 +63,7 @@ pub(crate) fn throw_address(rows: &[[u32; ROW]; ROWS], e: usize) -> u32
 }
 
 pub(crate) fn noted(rows: &[[u32; ROW]; ROWS]) -> LastThrow
-    ensures { λ t. ⌜ t ≡ noteIn (now (rows .entry)) ⌝ }
+    ensures { λ t. ⌜ t ≡ noteIn (now (rows .entry)) .thrown ⌝ }
 {
     LastThrow {
         address: rows[NOTE][0],
@@ -73,10 +73,24 @@ pub(crate) fn noted(rows: &[[u32; ROW]; ROWS]) -> LastThrow
 
 // In the registers it would cost a step one or two instructions, and a turn fifteen (docs/SPEED.md).
 pub(crate) fn note(rows: &mut [[u32; ROW]; ROWS], address: u32, code: u32)
-    ensures { λ _. ⌜ ((copies : List ℕ) → Laid (now (rows .entry)) copies → Hold (now (rows .exit)) copies (framesIn (now (rows .entry)) copies) (levelsIn (now (rows .entry)) copies) (record { address = address; code = code })) ⌝ }
+    ensures { λ _. ⌜ ((copies : List ℕ) → Laid (now (rows .entry)) copies → Hold (now (rows .exit)) copies (framesIn (now (rows .entry)) copies) (levelsIn (now (rows .entry)) copies) (record { thrown = record { address = address; code = code }; lost = noteIn (now (rows .entry)) .lost })) ⌝ }
 {
     rows[NOTE][0] = address;
     rows[NOTE][1] = code;
+}
+
+// What the memory lost by the stores of the machine whose rows these are, modulo 2^32.
+pub(crate) fn lost(rows: &[[u32; ROW]; ROWS]) -> u32
+    ensures { λ r. ⌜ r ≡ noteIn (now (rows .entry)) .lost ⌝ }
+{
+    rows[NOTE][2]
+}
+
+// It lost so much more. Here too a register would cost every step (docs/SPEED.md).
+pub(crate) fn lose(rows: &mut [[u32; ROW]; ROWS], more: u32)
+    ensures { λ _. ⌜ ((copies : List ℕ) → Laid (now (rows .entry)) copies → Hold (now (rows .exit)) copies (framesIn (now (rows .entry)) copies) (levelsIn (now (rows .entry)) copies) (record { thrown = noteIn (now (rows .entry)) .thrown; lost = (noteIn (now (rows .entry)) .lost + more) % 2 ^ 32 })) ⌝ }
+{
+    rows[NOTE][2] = std::num::wrapping_add_u32(rows[NOTE][2], more);
 }
 
 // A cell is four bytes in view.

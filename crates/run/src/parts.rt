@@ -132,7 +132,7 @@ pub(crate) fn apart(
     copies: &mut [usize; linked::COPIES],
 )
     requires { ⌜ Laid (now rows) (now copies) ⌝ }
-    ensures { λ _. ⌜ Hold (now (rows .exit)) (now (copies .exit)) (links .frames) (links .levels) thrown ⌝ }
+    ensures { λ _. ⌜ Hold (now (rows .exit)) (now (copies .exit)) (links .frames) (links .levels) (record { thrown = thrown; lost = noteIn (now (rows .entry)) .lost }) ⌝ }
 {
     let frames = links.frames;
     let levels = links.levels;

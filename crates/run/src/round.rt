@@ -23,7 +23,7 @@ use machine::Reach;
 use machine::Steps;
 use reach::Reached;
 use reach::Spot;
-ghost use Rattle.run.specs.Levels.{inRows};
+ghost use Rattle.run.specs.Levels.{inRows, noteIn};
 ghost use Rattle.run.specs.Rounds.{Starts, Ends};
 
 // Each round is one step: the instruction is fetched and its checks are made, and what refuses it ends the run; then the lent
@@ -42,7 +42,7 @@ pub(crate) fn rounds(
     turns: bool,
 ) -> Registers
     requires { ⌜ Starts reach (now mem) (inRows (now cells) (now returns) (now rows) (now copies) start) (now rows) (now copies) left (now costs) ⌝ }
-    ensures { λ g. ⌜ Ends reach turns (now (mem .entry)) (inRows (now (cells .entry)) (now (returns .entry)) (now (rows .entry)) (now (copies .entry)) start) left (now (mem .exit)) (now (cells .exit)) (now (returns .exit)) (now (rows .exit)) (now (copies .exit)) g ⌝ }
+    ensures { λ g. ⌜ Ends reach turns (now (mem .entry)) (inRows (now (cells .entry)) (now (returns .entry)) (now (rows .entry)) (now (copies .entry)) start) left (noteIn (now (rows .entry)) .lost) (now (mem .exit)) (now (cells .exit)) (now (returns .exit)) (now (rows .exit)) (now (copies .exit)) g ⌝ }
 {
     let mut regs = Registers {
         p: start.p,
@@ -83,6 +83,7 @@ pub(crate) fn rounds(
             regs = tally::counted(regs, price::price(costs, code));
             continue;
         }
+        // each arm goes on to the next round by itself: where they meet, the compiler sets more anew for each of them
         match code {
             // >R ( x -- )
             0x07 => {
@@ -96,6 +97,7 @@ pub(crate) fn rounds(
                 regs.r = r + 1;
                 regs.counter = next;
                 regs = tally::counted(regs, price::price(costs, code));
+                continue;
             }
             // R@ ( -- x )
             0x08 => {
@@ -108,6 +110,7 @@ pub(crate) fn rounds(
                 regs.p = p + 1;
                 regs.counter = next;
                 regs = tally::counted(regs, price::price(costs, code));
+                continue;
             }
             // R> ( -- x ) drops what it empties
             0x09 => {
@@ -124,6 +127,7 @@ pub(crate) fn rounds(
                 regs.e = checks::e_after_pop(lower, s, e, linked::copy_of_s(copies, e));
                 regs.counter = next;
                 regs = tally::counted(regs, price::price(costs, code));
+                continue;
             }
             // CATCH ( address -- )
             0x0B => {
@@ -149,6 +153,7 @@ pub(crate) fn rounds(
                 regs.e = e + 1;
                 regs.counter = to;
                 regs = tally::counted(regs, price::price(costs, code));
+                continue;
             }
             // RESETSP
             0x0C => {
@@ -158,7 +163,6 @@ pub(crate) fn rounds(
                 regs.e = 0;
                 regs.counter = next;
                 regs = tally::counted(regs, price::price(costs, code));
-                // on its own way to the next round: else the compiler sets four zeros before every jump
                 continue;
             }
             // THROW ( 0 -- ) or ( .. n -- .. n )
@@ -174,6 +178,7 @@ pub(crate) fn rounds(
                         regs.p = p - 1;
                         regs.counter = next;
                         regs = tally::counted(regs, 1);
+                        continue;
                     }
                     Throw::Code(n) => {
                         let kept = linked::copy_of_s(copies, e);
@@ -187,7 +192,6 @@ pub(crate) fn rounds(
                         regs.e = e - 1;
                         regs.counter = to;
                         regs = tally::counted(regs, price::price(costs, code));
-                        // as after RESETSP: where all arms meet, the compiler sets more anew for each of them
                         continue;
                     }
                 }
@@ -204,31 +208,36 @@ pub(crate) fn rounds(
                         cells[p - 1] = memory::read_number(mem, at, code);
                         regs.counter = next;
                         regs = tally::counted(regs, price::price(costs, code));
+                        continue;
                     }
                     Spot::Own(at) => {
                         cells[p - 1] = memory::read_number(mem, at, code);
                         regs.counter = next;
                         regs = tally::counted(regs, price::price(costs, code));
+                        continue;
                     }
                     Spot::Local(k) => {
                         cells[p - 1] = linked::local(rows, s, k);
                         regs.counter = next;
                         regs = tally::counted(regs, price::price(costs, 0x2D));
+                        continue;
                     }
                     Spot::Cell(k) => {
                         cells[p - 1] = linked::cell(rows, e, k);
                         regs.counter = next;
                         regs = tally::counted(regs, price::price(costs, 0x2D));
+                        continue;
                     }
                     Spot::View(at) => {
                         cells[p - 1] = view::read_in_view(rows, s, e, at, code);
                         regs.counter = next;
                         regs = tally::counted(regs, price::price(costs, code));
+                        continue;
                     }
                 }
             }
-            // STORE.L, STORE.W, STORE.B ( value address -- ); only STORE.L is to the whole of a cell
-            0x2E | 0x30 | 0x32 => {
+            // STORE.L ( value address -- ); it has an arm of its own, since one arm for all widths costs every step (docs/SPEED.md)
+            0x2E => {
                 let reached = access::reach(cells, reach, 2, code, p);
                 let Reached::At(spot) = reached else {
                     regs = leave::by_reach(regs, reached);
@@ -236,34 +245,90 @@ pub(crate) fn rounds(
                 };
                 match spot {
                     Spot::Memory(at) => {
-                        memory::write_number(mem, at, code, cells[p - 2]);
+                        let lost = memory::store_number(mem, at, code, cells[p - 2]);
+                        linked::lose(rows, lost);
                         regs.p = p - 2;
                         regs.counter = next;
                         regs = tally::counted(regs, price::price(costs, code));
+                        continue;
                     }
                     Spot::Own(at) => {
-                        memory::write_own(mem, reach.own, reach.end, at, code, cells[p - 2]);
+                        let value = cells[p - 2];
+                        let lost = memory::store_own(mem, reach.own, reach.end, at, code, value);
+                        linked::lose(rows, lost);
                         regs.p = p - 2;
                         regs.counter = next;
                         regs = tally::counted(regs, price::price(costs, code));
+                        continue;
                     }
                     Spot::Local(k) => {
                         linked::set_local(rows, s, k, cells[p - 2]);
                         regs.p = p - 2;
                         regs.counter = next;
-                        regs = tally::counted(regs, price::price(costs, 0x2E));
+                        regs = tally::counted(regs, price::price(costs, code));
+                        continue;
                     }
                     Spot::Cell(k) => {
                         linked::set_cell(rows, e, k, cells[p - 2]);
                         regs.p = p - 2;
                         regs.counter = next;
-                        regs = tally::counted(regs, price::price(costs, 0x2E));
+                        regs = tally::counted(regs, price::price(costs, code));
+                        continue;
                     }
                     Spot::View(at) => {
                         view::write_in_view(rows, s, e, at, code, cells[p - 2]);
                         regs.p = p - 2;
                         regs.counter = next;
                         regs = tally::counted(regs, price::price(costs, code));
+                        continue;
+                    }
+                }
+            }
+            // STORE.W, STORE.B ( value address -- ); neither is to the whole of a cell
+            0x30 | 0x32 => {
+                let reached = access::reach(cells, reach, 2, code, p);
+                let Reached::At(spot) = reached else {
+                    regs = leave::by_reach(regs, reached);
+                    continue;
+                };
+                match spot {
+                    Spot::Memory(at) => {
+                        let lost = memory::store_number(mem, at, code, cells[p - 2]);
+                        linked::lose(rows, lost);
+                        regs.p = p - 2;
+                        regs.counter = next;
+                        regs = tally::counted(regs, price::price(costs, code));
+                        continue;
+                    }
+                    Spot::Own(at) => {
+                        let value = cells[p - 2];
+                        let lost = memory::store_own(mem, reach.own, reach.end, at, code, value);
+                        linked::lose(rows, lost);
+                        regs.p = p - 2;
+                        regs.counter = next;
+                        regs = tally::counted(regs, price::price(costs, code));
+                        continue;
+                    }
+                    Spot::Local(k) => {
+                        linked::set_local(rows, s, k, cells[p - 2]);
+                        regs.p = p - 2;
+                        regs.counter = next;
+                        regs = tally::counted(regs, price::price(costs, code));
+                        continue;
+                    }
+                    Spot::Cell(k) => {
+                        linked::set_cell(rows, e, k, cells[p - 2]);
+                        regs.p = p - 2;
+                        regs.counter = next;
+                        regs = tally::counted(regs, price::price(costs, code));
+                        continue;
+                    }
+                    Spot::View(at) => {
+                        view::write_in_view(rows, s, e, at, code, cells[p - 2]);
+                        regs.p = p - 2;
+                        regs.counter = next;
+                        regs = tally::counted(regs, price::price(costs, code));
+                        continue;
                     }
                 }
             }
@@ -280,6 +345,7 @@ pub(crate) fn rounds(
                 regs.s = s + 1;
                 regs.counter = operand;
                 regs = tally::counted(regs, price::price(costs, code));
+                continue;
             }
             // JSR ( address -- )
             0x39 => {
@@ -296,6 +362,7 @@ pub(crate) fn rounds(
                 regs.s = s + 1;
                 regs.counter = to;
                 regs = tally::counted(regs, price::price(costs, code));
+                continue;
             }
             // EXIT
             0x3D => {
@@ -309,6 +376,7 @@ pub(crate) fn rounds(
                 regs.r = linked::copy_of_r(copies, s);
                 regs.counter = linked::return_address(rows, s);
                 regs = tally::counted(regs, price::price(costs, code));
+                continue;
             }
             // PAUSE is a NOP but that it may pass the turn; its one cycle stands outside the table
             0x3E => {
@@ -327,6 +395,7 @@ pub(crate) fn rounds(
                 regs.flag = stack.flag;
                 regs.counter = stack.counter;
                 regs = tally::counted(regs, price::price(costs, code));
+                continue;
             }
         }
     }

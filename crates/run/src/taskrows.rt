@@ -7,7 +7,8 @@ use machine::Tasks;
 ghost use mathlib.Core.Path.{_≡_};
 ghost use lib.ListN.{length};
 ghost use Rattle.machine.specs.Limits.{tasksCount};
-ghost use Rattle.run.specs.Levels.{machinesIn, AllLaid, Seats};
+ghost use Rattle.machine.specs.Sum.{sumOf};
+ghost use Rattle.run.specs.Levels.{machinesIn, lossesIn, AllLaid, Seats};
 
 pub(crate) fn apart(
     machines: [Machine; Tasks::COUNT],
@@ -17,7 +18,7 @@ pub(crate) fn apart(
     copies: &mut [[usize; linked::COPIES]; Tasks::COUNT],
 ) -> [Pointers; Tasks::COUNT]
     requires { ⌜ ((length (now cells) ≡ tasksCount) × (length (now returns) ≡ tasksCount)) × AllLaid (now rows) (now copies) ⌝ }
-    ensures { λ saved. ⌜ Seats (now (cells .exit)) (now (returns .exit)) (now (rows .exit)) (now (copies .exit)) saved × (machinesIn (now (cells .exit)) (now (returns .exit)) (now (rows .exit)) (now (copies .exit)) saved ≡ machines) ⌝ }
+    ensures { λ saved. ⌜ Seats (now (cells .exit)) (now (returns .exit)) (now (rows .exit)) (now (copies .exit)) saved × ((machinesIn (now (cells .exit)) (now (returns .exit)) (now (rows .exit)) (now (copies .exit)) saved ≡ machines) × (sumOf (lossesIn (now (rows .exit))) ≡ sumOf (lossesIn (now (rows .entry))))) ⌝ }
 {
     let none = Pointers {
         p: 0,

@@ -3,6 +3,7 @@ use crate::Clock;
 use crate::linked;
 use crate::parts;
 use crate::round;
+use crate::sums;
 use crate::taskrows;
 use crate::ticks;
 use machine::CYCLES;
@@ -15,8 +16,9 @@ use machine::Tasks;
 use order::Next;
 ghost use mathlib.Core.Path.{_≡_};
 ghost use mathlib.Core.Bool.{true};
-ghost use Prim.Native.Nat.{_<_};
-ghost use Rattle.machine.specs.Limits.{tasksCount};
+ghost use Prim.Native.Nat.{_<_, _≤_};
+ghost use Rattle.machine.specs.Limits.{mostSum, tasksCount};
+ghost use Rattle.machine.specs.Sum.{sumAfter};
 ghost use Rattle.machine.specs.Reach.{task};
 ghost use Rattle.machine.specs.Tasks.{startOf, tasksAcceptable, tasksIn, tasksAfterOf, TurnsFrom, AllWhole};
 ghost use Rattle.run.specs.Promises.{Bounded};
@@ -46,9 +48,15 @@ pub(crate) fn ended(answer: u32, steps: Steps, cycles: Cycles, tasks: Tasks) -> 
     }
 }
 
-pub(crate) fn turns(mem: &mut [u8], tasks: Tasks, quantum: u32, budget: u32) -> RanTasks
-    requires { ⌜ (tasksAcceptable (now mem) (tasksIn tasks) quantum budget ≡ true) × AllWhole (tasksIn tasks) ⌝ }
-    ensures { λ ran. ⌜ TurnsFrom quantum (startOf (now (mem .entry)) (tasksIn tasks) budget) (tasksAfterOf (now (mem .exit)) ran) ⌝ }
+pub(crate) fn turns(
+    mem: &mut [u8],
+    tasks: Tasks,
+    quantum: u32,
+    budget: u32,
+    sum: &mut u64,
+) -> RanTasks
+    requires { ⌜ (tasksAcceptable (now mem) (tasksIn tasks) quantum budget ≡ true) × (AllWhole (tasksIn tasks) × (now sum ≤ mostSum)) ⌝ }
+    ensures { λ ran. ⌜ TurnsFrom quantum (startOf (now (mem .entry)) (tasksIn tasks) budget) (tasksAfterOf (now (mem .exit)) ran) × (now (sum .exit) ≡ sumAfter (now (sum .entry)) (now (mem .entry)) (now (mem .exit))) ⌝ }
 {
     let costs = CYCLES;
     let before = tasks.machines;
@@ -91,6 +99,7 @@ pub(crate) fn turns(mem: &mut [u8], tasks: Tasks, quantum: u32, budget: u32) -> 
         clock = ticks::turned(clock, t, Steps(length - after.unspent.0), cycles);
         next = order::next_ready(&kept, clock.from);
     }
+    *sum = sums::less(*sum, sums::lost_by_all(&rows));
     let machines = taskrows::whole(&cells, &returns, &rows, &copies, saved);
     let cycles = clock.cycles;
     let left = Tasks { machines, kept };

@@ -74,14 +74,15 @@ task = fields taskFields
 abbrev pub tasks : Part (List Task)
 tasks = array tasksCount task
 
--- what a run counted, each number as wide as a pointer
+-- what a run counted, and with request P9 the memory sum that it hands back, each number as wide as a pointer
 pub record Counted : Type 0 where
   pub answer : ℕ
   pub steps : Steps
   pub cycles : Cycles
+  pub sum : ℕ
 
 abbrev pub resultFields : List (Field Counted)
-resultFields = pointer of (λ c. c .answer) ∷ pointer of (λ c. c .steps .0) ∷ pointer of (λ c. c .cycles .0) ∷ []
+resultFields = pointer of (λ c. c .answer) ∷ pointer of (λ c. c .steps .0) ∷ pointer of (λ c. c .cycles .0) ∷ pointer of (λ c. c .sum) ∷ []
 
 abbrev pub result : Part Counted
 result = fields resultFields

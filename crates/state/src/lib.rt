@@ -1,4 +1,4 @@
-// A whole machine as bytes, both ways, and what its run counted: for hosts that hold a machine only as a buffer.
+// A whole machine as bytes, both ways, and what its run counted, with the memory sum: for hosts that hold a machine only as a buffer.
 // The order of the bytes is one definition (specs/Layout.antt).
 mod places;
 mod reading;
@@ -93,9 +93,15 @@ pub fn give_tasks(tasks: Tasks, bytes: &mut [u8]) -> Verdict
     Verdict::Good
 }
 
-// What a run counted. The whole buffer is written, or nothing of it.
-pub fn give_counts(answer: u32, steps: Steps, cycles: Cycles, result: &mut [u8]) -> Verdict
-    ensures { λ r. ⌜ Gives layout.result (record { answer = answer; steps = steps; cycles = cycles }) (now (result .entry)) (saysVerdict r) (now (result .exit)) ⌝ }
+// What a run counted, and the memory sum. The whole buffer is written, or nothing of it.
+pub fn give_counts(
+    answer: u32,
+    steps: Steps,
+    cycles: Cycles,
+    sum: u64,
+    result: &mut [u8],
+) -> Verdict
+    ensures { λ r. ⌜ Gives layout.result (record { answer = answer; steps = steps; cycles = cycles; sum = sum }) (now (result .entry)) (saysVerdict r) (now (result .exit)) ⌝ }
 {
     if result.len() != RESULT {
         return Verdict::Refused(2);
@@ -103,5 +109,6 @@ pub fn give_counts(answer: u32, steps: Steps, cycles: Cycles, result: &mut [u8])
     writing::put_pointer(result, places::RESULT_ANSWER, answer as usize);
     writing::put_pointer(result, places::RESULT_STEPS, steps.0 as usize);
     writing::put_pointer(result, places::RESULT_CYCLES, cycles.0 as usize);
+    writing::put_pointer(result, places::RESULT_SUM, sum as usize);
     Verdict::Good
 }

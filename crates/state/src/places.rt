@@ -62,11 +62,13 @@ pub(crate) const TASK: usize = TASK_KEPT + POINTER;
 // Four tasks, one after the other.
 pub const TASKS: usize = Tasks::COUNT * TASK;
 
-// What a run counted: answer, steps and cycles, each as wide as a pointer.
+// What a run counted and the memory sum that it hands back: answer, steps, cycles, sum, each as wide as a pointer.
 pub(crate) const RESULT_ANSWER: usize = 0;
 
 pub(crate) const RESULT_STEPS: usize = RESULT_ANSWER + POINTER;
 
 pub(crate) const RESULT_CYCLES: usize = RESULT_STEPS + POINTER;
 
-pub const RESULT: usize = RESULT_CYCLES + POINTER;
+pub(crate) const RESULT_SUM: usize = RESULT_CYCLES + POINTER;
+
+pub const RESULT: usize = RESULT_SUM + POINTER;

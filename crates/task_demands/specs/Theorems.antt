@@ -8,6 +8,8 @@ pub mod One
 pub mod Three
 -- each task notes its own throws
 pub mod Thrown
+-- the memory sum of four tasks
+pub mod Summed
 -- isolation: a turn leaves the other tasks alone, and takes no notice of them
 pub mod Isolation
 -- fairness: how long a ready task waits

@@ -19,7 +19,7 @@ fn narrowed(number: u64, most: u32) -> u32
     number as u32
 }
 
-// Runs four tasks that a host holds as bytes, and hands them back the same way. Both buffers of its own are measured first,
+// Runs four tasks that a host holds as bytes, with the sum of their memory, and hands all back, the sum in the result. Both buffers of its own are measured first,
 // so that a call that answers 2 touches nothing.
 #[no_mangle]
 pub extern "C" fn glidecotton_run_tasks(
@@ -27,9 +27,10 @@ pub extern "C" fn glidecotton_run_tasks(
     memory: &mut [u8],
     quantum: u64,
     budget: u64,
+    sum: u64,
     result: &mut [u8],
 ) -> u64
-    ensures { λ r. ⌜ HandsTasks (now (tasks .entry)) (now (memory .entry)) quantum budget (now (result .entry)) (record { number = r; state = now (tasks .exit); memory = now (memory .exit); result = now (result .exit) }) ⌝ }
+    ensures { λ r. ⌜ HandsTasks (now (tasks .entry)) (now (memory .entry)) quantum budget sum (now (result .entry)) (record { number = r; state = now (tasks .exit); memory = now (memory .exit); result = now (result .exit) }) ⌝ }
 {
     if result.len() != state::RESULT {
         return 2;
@@ -41,11 +42,13 @@ pub extern "C" fn glidecotton_run_tasks(
     };
     let four = taken.tasks;
     let steps = narrowed(quantum, Tasks::QUANTUM);
-    let ran = run::run_tasks(memory, four, steps, narrowed(budget, Machine::BUDGET));
+    let most = narrowed(budget, Machine::BUDGET);
+    let mut kept = sum;
+    let ran = run::run_tasks(memory, four, steps, most, &mut kept);
     let after = ran.tasks;
     let counted = ran.steps;
     let cycles = ran.cycles;
     state::give_tasks(after, tasks);
-    state::give_counts(ran.answer, counted, cycles, result);
+    state::give_counts(ran.answer, counted, cycles, kept, result);
     0
 }

@@ -6,12 +6,13 @@ use std::time::Instant;
 use glidecotton_rust::arguments::Arguments;
 use glidecotton_rust::boundary::STAND_IN;
 use glidecotton_rust::budgets::edges;
-use glidecotton_rust::chains::any_state;
+use glidecotton_rust::chains::{any_state, in_slices, Lengths};
 use glidecotton_rust::comparison::{Comparison, Difference, Room};
 use glidecotton_rust::counts::grouped;
 use glidecotton_rust::damage::sweep;
+use glidecotton_rust::model::image::Loaded;
 use glidecotton_rust::model::state::MEMORY;
-use glidecotton_rust::programs::{any_image, buffers};
+use glidecotton_rust::programs::{any_image, buffers, lengths_of_read};
 use glidecotton_rust::progress::Progress;
 use glidecotton_rust::random::Random;
 use glidecotton_rust::task_chains::any_tasks;
@@ -28,8 +29,8 @@ fn plan() -> Result<Plan, ExitCode> {
     let short = arguments.flag("--short");
     let seed = arguments.number("--seed", 1)?;
     let images = arguments.number("--images", if short { 400_000 } else { 3_000_000 })?;
-    let states = arguments.number("--states", if short { 100_000 } else { 600_000 })?;
-    let tasks = arguments.number("--tasks", if short { 60_000 } else { 500_000 })?;
+    let states = arguments.number("--states", if short { 150_000 } else { 600_000 })?;
+    let tasks = arguments.number("--tasks", if short { 100_000 } else { 500_000 })?;
     arguments.end()?;
     Ok(Plan { seed, images, states, tasks })
 }
@@ -76,6 +77,7 @@ fn compare_images(comparison: &mut Comparison, random: &mut Random, images: u64)
     for (kind, file) in &fixed {
         comparison.tally.kind(kind);
         comparison.image(file, MEMORY, Room::Plenty)?;
+        comparison.read(file, Lengths::OF_READ)?;
     }
     for done in fixed.len() as u64..images {
         progress.done(done);
@@ -85,6 +87,18 @@ fn compare_images(comparison: &mut Comparison, random: &mut Random, images: u64)
         if let Some(steps) = comparison.image(&file, memory, room)? {
             comparison.tally.program(steps);
         }
+        if random.percent(25) {
+            compare_read(comparison, random, &file)?;
+        }
+    }
+    Ok(())
+}
+
+/// Compares what the reader makes of an image, and now and then runs of that, with the reader's sum.
+fn compare_read(comparison: &mut Comparison, random: &mut Random, file: &[u8]) -> Result<(), Difference> {
+    let read = comparison.read(file, lengths_of_read(random))?;
+    if let Some((Loaded { mut machine, budget, .. }, mut memory)) = read.filter(|_| random.percent(20)) {
+        in_slices(comparison, random, "state: as it was read", &mut machine, &mut memory, budget)?;
     }
     Ok(())
 }

@@ -1,4 +1,5 @@
-//! The speed table: proved machine, plain C and model side by side on the same images and on the same tasks.
+//! The speed table: proved machine, plain C and model side by side on the same images, states and tasks; and what a host
+//! saves that reads the memory sum.
 //!
 //! Instructions are counted by callgrind inside the entry function of each machine and repeat exactly; nanoseconds are
 //! the best of several rounds and are only as quiet as the computer.
@@ -8,7 +9,9 @@ use std::time::Instant;
 
 use glidecotton_rust::arguments::Arguments;
 use glidecotton_rust::boundary::STAND_IN;
-use glidecotton_rust::speed_work::{all_work, Contender, Work, CONTENDERS};
+use glidecotton_rust::counts::grouped;
+use glidecotton_rust::speed_states::{SHORT_RUN, SHORT_RUNS, WAYS};
+use glidecotton_rust::speed_work::{all_work, Work, CONTENDERS};
 
 /// A ratio above this is marked, and one of instructions fails.
 const LIMIT: f64 = 1.15;
@@ -24,7 +27,7 @@ const NO_STRING_INSTRUCTIONS: &str =
 enum Wish {
     Times,
     TimesAndInstructions,
-    /// One measurement, in the process that callgrind watches: the contender's name and the work's number.
+    /// One measurement, in the process that callgrind watches: the contender's or the way's name, and the work's number.
     Counted(String, usize),
 }
 
@@ -48,9 +51,7 @@ fn main() -> ExitCode {
     };
     let all = all_work();
     if let Wish::Counted(name, work) = wish {
-        if let Some(contender) = CONTENDERS.iter().find(|contender| contender.name == name) {
-            contender.repeat(&all[work]);
-        }
+        repeat(&name, &all[work]);
         return ExitCode::SUCCESS;
     }
     if STAND_IN {
@@ -60,11 +61,17 @@ fn main() -> ExitCode {
         println!("the machines do not agree on '{}'", work.name());
         return ExitCode::FAILURE;
     }
+    let [read, added_up] = WAYS.map(|way| way.repeat());
+    if read != added_up {
+        println!("the sums that are handed back are not what the memory adds up to");
+        return ExitCode::FAILURE;
+    }
     print_table("nanoseconds", &all, time);
     if let Wish::Times = wish {
         return ExitCode::SUCCESS;
     }
     let over = print_table("instructions", &all, count_instructions);
+    print_ways();
     let limits = format!("{LIMIT}, or over {LIMIT_IN_TURNS} in turns");
     if over > 0 {
         println!("{over} of the ratios of instructions are over {limits}");
@@ -72,6 +79,16 @@ fn main() -> ExitCode {
     }
     println!("no ratio of instructions is over {limits}");
     ExitCode::SUCCESS
+}
+
+/// Does what has this name, for callgrind to count.
+fn repeat(name: &str, work: &Work) {
+    if let Some(contender) = CONTENDERS.iter().find(|contender| contender.name == name) {
+        contender.repeat(work);
+    }
+    if let Some(way) = WAYS.iter().find(|way| way.name == name) {
+        way.repeat();
+    }
 }
 
 /// Nanoseconds of each contender, the rounds of all taking turns.
@@ -88,19 +105,28 @@ fn time(_: usize, work: &Work) -> [f64; 3] {
 }
 
 fn count_instructions(index: usize, work: &Work) -> [f64; 3] {
-    CONTENDERS.map(|contender| counted(contender, index, work) as f64 / work.units().0 as f64)
+    CONTENDERS.map(|contender| counted(contender.name, contender.entry(work), index) as f64 / work.units().0 as f64)
 }
 
-/// Instructions inside the contender's entry function, what it calls included.
-fn counted(contender: Contender, index: usize, work: &Work) -> u64 {
-    let entry = contender.entry(work);
+/// A host that reads the sum beside one that adds up the memory.
+fn print_ways() {
+    let [read, added_up] = WAYS.map(|way| counted(way.name, way.entry, 0) / SHORT_RUNS);
+    println!(
+        "instructions for a run of {SHORT_RUN} steps: {} with the memory sum read after it, {} with the memory added up afresh",
+        grouped(read),
+        grouped(added_up)
+    );
+}
+
+/// Instructions inside the entry function of a contender or a way, what it calls included.
+fn counted(name: &str, entry: &str, index: usize) -> u64 {
     let this_program = std::env::current_exe().expect("the program's own path");
     let output = Command::new("valgrind")
         .env("GLIBC_TUNABLES", NO_STRING_INSTRUCTIONS)
         .args(["--tool=callgrind", "--callgrind-out-file=/dev/null"])
         .arg(format!("--toggle-collect={entry}"))
         .arg(this_program)
-        .args(["--stand-in", "--counted", contender.name, "--work", &index.to_string()])
+        .args(["--stand-in", "--counted", name, "--work", &index.to_string()])
         .output()
         .unwrap_or_else(|error| panic!("valgrind: {error}"));
     let text = String::from_utf8_lossy(&output.stderr);
@@ -110,7 +136,7 @@ fn counted(contender: Contender, index: usize, work: &Work) -> u64 {
         .unwrap_or_else(|| panic!("callgrind counted nothing in {entry}:\n{text}"))
 }
 
-/// Prints a row for each image and each run of tasks, all rows together after the last is measured; gives how many of the
+/// Prints a row for each image, state and run of tasks, all rows together after the last is measured; gives how many of the
 /// proved machine's ratios are over their limit.
 fn print_table(title: &str, all: &[Work], measure: fn(usize, &Work) -> [f64; 3]) -> usize {
     let mut rows = format!("{title:<24}{:>10}{:>10}{:>10}   model/C  proved/C\n", "plain C", "proved", "model");
@@ -136,7 +162,7 @@ fn print_table(title: &str, all: &[Work], measure: fn(usize, &Work) -> [f64; 3])
 
 fn limit(work: &Work) -> f64 {
     match work {
-        Work::Image(_) => LIMIT,
+        Work::Image(_) | Work::State(_) => LIMIT,
         Work::Tasks(_) => LIMIT_IN_TURNS,
     }
 }

@@ -2,6 +2,7 @@
 
 use super::run::MAX_BUDGET;
 use super::state::{Answer, Machine, CELLS, MEMORY};
+use super::sum::sum_of;
 
 /// The budget of a file that gives none.
 pub const DEFAULT_BUDGET: u32 = 250_000;
@@ -13,8 +14,16 @@ struct Image<'a> {
     budget: u64,
 }
 
-/// Fills the memory from a file and gives the machine and the budget; a refusal touches nothing.
-pub fn load_image(file: &[u8], memory: &mut [u8]) -> Result<(Machine, u64), Answer> {
+/// What a good file gives besides the memory that it fills.
+pub struct Loaded {
+    pub machine: Machine,
+    pub budget: u64,
+    /// Of the memory.
+    pub sum: u64,
+}
+
+/// Fills the memory from a file; a refusal touches nothing.
+pub fn load_image(file: &[u8], memory: &mut [u8]) -> Result<Loaded, Answer> {
     if memory.len() != MEMORY {
         return Err(Answer::BadInput);
     }
@@ -26,7 +35,7 @@ pub fn load_image(file: &[u8], memory: &mut [u8]) -> Result<(Machine, u64), Answ
     for cell in image.parameters {
         machine.push(cell);
     }
-    Ok((machine, image.budget))
+    Ok(Loaded { machine, budget: image.budget, sum: sum_of(memory) })
 }
 
 fn parse(file: &[u8]) -> Option<Image<'_>> {

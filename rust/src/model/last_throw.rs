@@ -71,8 +71,8 @@ fn any_two_numbers_are_well_formed() {
 
 #[test]
 fn an_image_begins_with_zeros() {
-    let (machine, _) = load_image(&image(&[THROW], &[1], None), &mut vec![0xAA; MEMORY]).expect("a good image");
-    assert_eq!(machine.last_throw, LastThrow { address: 0, code: 0 });
+    let loaded = load_image(&image(&[THROW], &[1], None), &mut vec![0xAA; MEMORY]).expect("a good image");
+    assert_eq!(loaded.machine.last_throw, LastThrow { address: 0, code: 0 });
 }
 
 /// The last two numbers of a program's line.

@@ -39,3 +39,26 @@ pub trait Observer {
 
 /// Nobody is watching.
 impl Observer for () {}
+
+/// Both are told.
+impl<A: Observer, B: Observer> Observer for (&mut A, &mut B) {
+    fn trying(&mut self, reach: Reach, machine: &Machine, memory: &[u8; MEMORY]) {
+        self.0.trying(reach, machine, memory);
+        self.1.trying(reach, machine, memory);
+    }
+
+    fn completed(&mut self, code: u8, before: Seen, after: Seen) {
+        self.0.completed(code, before, after);
+        self.1.completed(code, before, after);
+    }
+
+    fn refused(&mut self, code: u8, before: Seen, answer: Answer) {
+        self.0.refused(code, before, answer);
+        self.1.refused(code, before, answer);
+    }
+
+    fn turn_over(&mut self, number: usize, turn: Turn, quantum: u64, left: u64) {
+        self.0.turn_over(number, turn, quantum, left);
+        self.1.turn_over(number, turn, quantum, left);
+    }
+}

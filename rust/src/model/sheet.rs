@@ -140,7 +140,7 @@ fn exit_asks_the_level_and_not_the_return_stack() {
     machine.returns[0] = 100;
     machine.frames[1] = Frame { return_address: 200, ..Frame::default() };
     let mut memory = vec![0x3D; MEMORY];
-    let outcome = run(&mut machine, &mut memory, 1, &mut ());
+    let outcome = run(&mut machine, &mut memory, 1, 0, &mut ());
     assert_eq!((outcome.answer, machine.program_counter), (Answer::BudgetSpent, 200));
 }
 
@@ -167,7 +167,7 @@ fn a_refused_call_writes_no_return_cell() {
     let mut machine = Machine::fresh();
     let mut memory = vec![0; MEMORY];
     memory[..4].copy_from_slice(&assemble("JSL 0"));
-    let outcome = run(&mut machine, &mut memory, 33, &mut ());
+    let outcome = run(&mut machine, &mut memory, 33, 0, &mut ());
     assert_eq!((outcome.answer, outcome.steps, machine.r), (Answer::FramesFull, 32, 32));
     assert_eq!(machine.returns[32], 0);
 }

@@ -6,6 +6,7 @@ use super::observer::Observer;
 use super::reach::{Reach, TASKS};
 use super::run::{Outcome, MAX_BUDGET};
 use super::state::{Answer, Machine, MEMORY};
+use super::sum::{moved, sum_of, MOST_SUM};
 use super::turn::turn;
 
 /// Steps that a turn may be given.
@@ -35,19 +36,22 @@ impl Task {
     }
 }
 
+/// One sum serves all four.
 pub fn run_tasks(
     tasks: &mut [Task; TASKS],
     memory: &mut [u8],
     quantum: u64,
     budget: u64,
+    sum: u64,
     observer: &mut impl Observer,
 ) -> Outcome {
     let Ok(memory) = <&mut [u8; MEMORY]>::try_from(memory) else {
-        return Outcome::BAD_INPUT;
+        return Outcome::bad_input(sum);
     };
-    if budget > MAX_BUDGET || !QUANTA.contains(&quantum) || !tasks.iter().all(Task::is_good) {
-        return Outcome::BAD_INPUT;
+    if budget > MAX_BUDGET || sum > MOST_SUM || !QUANTA.contains(&quantum) || !tasks.iter().all(Task::is_good) {
+        return Outcome::bad_input(sum);
     }
+    let before = sum_of(memory);
     let (mut steps, mut cycles, mut first) = (0, 0, 0);
     let answer = loop {
         let left = budget - steps;
@@ -65,7 +69,7 @@ pub fn run_tasks(
         cycles += turn.cycles;
         first = number + 1;
     };
-    Outcome { answer, steps, cycles }
+    Outcome { answer, steps, cycles, sum: moved(sum, before, sum_of(memory)) }
 }
 
 /// The first ready task in circular order, beginning with this number.

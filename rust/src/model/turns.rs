@@ -39,13 +39,14 @@ impl Four {
         Four { tasks, memory }
     }
 
+    /// No program here stores to memory, so that a sum of 0 stays.
     fn run(&mut self, quantum: u64, budget: u64) -> Outcome {
-        run_tasks(&mut self.tasks, &mut self.memory, quantum, budget, &mut ())
+        run_tasks(&mut self.tasks, &mut self.memory, quantum, budget, 0, &mut ())
     }
 
     fn turns(&mut self, quantum: u64, budget: u64) -> Vec<(usize, u64)> {
         let mut turns = Turns::default();
-        run_tasks(&mut self.tasks, &mut self.memory, quantum, budget, &mut turns);
+        run_tasks(&mut self.tasks, &mut self.memory, quantum, budget, 0, &mut turns);
         turns.0
     }
 
@@ -91,7 +92,7 @@ fn a_spent_quantum_comes_before_the_next_instruction() {
 #[test]
 fn a_task_that_finishes_or_is_refused_leaves_and_keeps_its_answer() {
     let mut four = Four::new(["EXIT", "NOP DROP", "LOAD.W 16384 FETCH.B", ENDLESS]);
-    assert_eq!(four.run(1000, 10), Outcome { answer: Answer::BudgetSpent, steps: 10, cycles: 15 });
+    assert_eq!(four.run(1000, 10), Outcome { answer: Answer::BudgetSpent, steps: 10, cycles: 15, sum: 0 });
     assert_eq!(four.kept(), [0, 5, 17, READY]);
     // The machine stands before the instruction that was refused.
     assert_eq!(four.tasks[1].machine.program_counter, 20_481);
@@ -126,11 +127,11 @@ fn answers_of_the_run() {
     // A spent budget comes before the end of the last task, and before the want of a ready one.
     assert_eq!(four.run(5, 0).answer, Answer::BudgetSpent);
     assert_eq!(four.kept(), [READY; TASKS]);
-    assert_eq!(four.run(5, 1), Outcome { answer: Answer::Finished, steps: 0, cycles: 0 });
+    assert_eq!(four.run(5, 1), Outcome { answer: Answer::Finished, steps: 0, cycles: 0, sum: 0 });
     assert_eq!(four.kept(), [0; TASKS]);
     assert_eq!(four.run(5, 0).answer, Answer::BudgetSpent);
     let mut four = Four::new(["NOP EXIT"; TASKS]);
-    assert_eq!(four.run(5, 4), Outcome { answer: Answer::BudgetSpent, steps: 4, cycles: 4 });
+    assert_eq!(four.run(5, 4), Outcome { answer: Answer::BudgetSpent, steps: 4, cycles: 4, sum: 0 });
     assert_eq!(four.kept(), [0, 0, 0, READY]);
 }
 
@@ -139,7 +140,7 @@ fn one_ready_task_runs_as_it_would_alone() {
     let mut four = Four::new(["LOAD.B 5 DUP + EXIT", ENDLESS, ENDLESS, ENDLESS]);
     four.tasks[1..].iter_mut().for_each(|task| task.kept = 0);
     let mut alone = four.tasks[0].machine.clone();
-    let outcome = run(&mut alone, &mut four.memory.clone(), 100, &mut ());
+    let outcome = run(&mut alone, &mut four.memory.clone(), 100, 0, &mut ());
     assert_eq!(four.run(2, 100), outcome);
     assert_eq!(four.tasks[0].machine, alone);
 }
@@ -177,7 +178,7 @@ fn answer_after(spoil: fn(&mut Four), quantum: u64, budget: u64) -> Answer {
     let (tasks, memory) = (four.tasks.clone(), four.memory.clone());
     let outcome = four.run(quantum, budget);
     if outcome.answer == Answer::BadInput {
-        assert_eq!(outcome, Outcome::BAD_INPUT);
+        assert_eq!(outcome, Outcome::bad_input(0));
         assert!(four.tasks == tasks && four.memory == memory);
     }
     outcome.answer

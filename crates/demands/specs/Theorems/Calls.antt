@@ -7,7 +7,9 @@ use native.Mathlib.Omega.{arith}
 use lib.ListN.{length}
 use Rattle.machine.specs.Fits.{AllBytes, Exist}
 use Rattle.machine.specs.Laws.Carries.{run-carries}
+use Rattle.machine.specs.Laws.Summed.{budgetWith, as-run}
 use Rattle.machine.specs.Run.{After, runOf}
+use Rattle.machine.specs.Sum.{runSummed}
 use Rattle.machine.specs.declared.Machine.{Machine}
 use Rattle.state.specs.Layout as layout
 use Rattle.state.specs.Lent.{Lent}
@@ -29,49 +31,53 @@ as-long : (state : List ℕ) (m : Machine) → Carries state m → length state 
 as-long state m carries = ap length (sym (carries .spelled)) ∙ state-sound .long m (carries .fit)
 
 -- A call runs the machine that the bytes carry, and hands back bytes that carry the machine that the run leaves.
-pub handled : (state memory : List ℕ) (budget : ℕ) (result : List ℕ) (handed : Lent) (m : Machine) → Carries state m → length result ≡ layout.result .width
-    → Hands state memory budget result handed → Handled memory budget m handed
-handled state memory budget result handed m carries long (wrong-length h) =
+pub handled : (state memory : List ℕ) (budget sum : ℕ) (result : List ℕ) (handed : Lent) (m : Machine) → Carries state m → length result ≡ layout.result .width
+    → Hands state memory budget sum result handed → Handled memory budget sum m handed
+handled state memory budget sum result handed m carries long (wrong-length h) =
     absurd (h (as-long state m carries, long))
-handled state memory budget result handed m carries long (run n all also fit is kept) =
-    subst (λ (x : Machine). Handled memory budget x handed) (one-machine state n m (record { fit = fit; spelled = is }) carries)
+handled state memory budget sum result handed m carries long (run n all also fit is kept) =
+    subst (λ (x : Machine). Handled memory budget sum x handed) (one-machine state n m (record { fit = fit; spelled = is }) carries)
     (record { as-run = refl; bytes-carry = record { fit = kept; spelled = refl } })
 
--- And such a call there is, whatever memory of bytes and whatever budget the host hands in: what the promise says of the machine that is
--- left holds of every run.
-pub answered : (state memory : List ℕ) (budget : ℕ) (result : List ℕ) (m : Machine) → Carries state m → AllBytes memory → length result ≡ layout.result .width
-    → Hands state memory budget result (handedBack (runOf memory m budget))
-answered state memory budget result m carries bytes long =
+-- And such a call there is, whatever memory of bytes, whatever budget and whatever sum the host hands in: what the promise says of the
+-- machine that is left holds of every run.
+pub answered : (state memory : List ℕ) (budget sum : ℕ) (result : List ℕ) (m : Machine) → Carries state m → AllBytes memory → length result ≡ layout.result .width
+    → Hands state memory budget sum result (handedBack (runSummed memory m budget sum))
+answered state memory budget sum result m carries bytes long =
     let exist : Exist memory m = record { whole = machine-whole m (carries .fit); fits = machine-exists m (carries .fit); bytes = bytes } in
-    let still = run-carries memory m budget exist in
-    run m (as-long state m carries) long (carries .fit) (carries .spelled) (machine-carried (runOf memory m budget .ran .machine) (still .whole) (still .fits))
+    let a = runOf memory m (budgetWith sum budget) in
+    let still = run-carries memory m (budgetWith sum budget) exist in
+    run m (as-long state m carries) long (carries .fit) (carries .spelled)
+    (subst (λ (x : After). layout.state .Fits (x .ran .machine)) (sym (as-run memory m budget sum)) (machine-carried (a .ran .machine) (still .whole) (still .fits)))
 
 -- So the next call takes the very machine that was left: two calls are the two runs, one after the other.
-pub handled-again : (state memory later : List ℕ) (budget again : ℕ) (result other : List ℕ) (handed back : Lent) (m : Machine) → Carries state m
+pub handled-again : (state memory later : List ℕ) (budget sum again another : ℕ) (result other : List ℕ) (handed back : Lent) (m : Machine) → Carries state m
     → length result ≡ layout.result .width → length other ≡ layout.result .width
-    → Hands state memory budget result handed → Hands (handed .state) later again other back
-    → Handled later again (runOf memory m budget .ran .machine) back
-handled-again state memory later budget again result other handed back m carries long also first second =
-    handled (handed .state) later again other back (runOf memory m budget .ran .machine) (handled state memory budget result handed m carries long first .bytes-carry) also second
+    → Hands state memory budget sum result handed → Hands (handed .state) later again another other back
+    → Handled later again another (runSummed memory m budget sum .after .ran .machine) back
+handled-again state memory later budget sum again another result other handed back m carries long also first second =
+    let left = runSummed memory m budget sum .after .ran .machine in
+    handled (handed .state) later again another other back left (handled state memory budget sum result handed m carries long first .bytes-carry) also second
 
 -- Any number of calls is one history, from the machine that the first bytes carry to the machine that the last ones carry: run after
 -- run, each with the very machine that the one before it left. It carries out as many instructions as the calls report, in as many
 -- cycles.
 pub one-history : {state end : List ℕ} (calls : Calls state end) (w : World) → Carries state (w .machine) → OneHistory calls w
 one-history over w carries = record { history = here; follows = none; bytes-carry = carries; steps = refl; cycles = refl }
-one-history (host-call memory budget result (wrong-length other) rest) w carries =
+one-history (host-call memory budget sum result (wrong-length other) rest) w carries =
     let later = one-history rest w carries in
     record { history = later .history; follows = later .follows; bytes-carry = later .bytes-carry; steps = later .steps; cycles = later .cycles }
-one-history (host-call {state = state} memory budget result (run m all long fits is kept) rest) w carries =
+one-history (host-call {state = state} memory budget sum result (run m all long fits is kept) rest) w carries =
     let same : m ≡ w .machine = one-machine state m (w .machine) (record { fit = fits; spelled = is }) carries in
-    let a = runOf memory (w .machine) budget in
-    let now = run-history memory (w .machine) budget in
-    let carries-on = subst (λ (x : Machine). Carries (layout.state .bytes (runOf memory m budget .ran .machine)) (runOf memory x budget .ran .machine)) same
+    let a = runSummed memory (w .machine) budget sum .after in
+    let told = runSummed memory m budget sum .after in
+    let now = run-history memory (w .machine) budget sum in
+    let carries-on = subst (λ (x : Machine). Carries (layout.state .bytes (told .ran .machine)) (runSummed memory x budget sum .after .ran .machine)) same
     (record { fit = kept; spelled = refl }) in
     let later = one-history rest (worldAfter a) carries-on in
-    let as-run : a ≡ runOf memory m budget = ap (λ (x : Machine). runOf memory x budget) (sym same) in
-    let same-steps : a .ran .steps .0 ≡ runOf memory m budget .ran .steps .0 = ap (λ (x : After). x .ran .steps .0) as-run in
-    let same-cycles : a .ran .cycles .0 ≡ runOf memory m budget .ran .cycles .0 = ap (λ (x : After). x .ran .cycles .0) as-run in
+    let as-told : a ≡ told = ap (λ (x : Machine). runSummed memory x budget sum .after) (sym same) in
+    let same-steps : a .ran .steps .0 ≡ told .ran .steps .0 = ap (λ (x : After). x .ran .steps .0) as-told in
+    let same-cycles : a .ran .cycles .0 ≡ told .ran .cycles .0 = ap (λ (x : After). x .ran .cycles .0) as-told in
     record {
       history = then (host refl) (joined (now .history) (later .history));
       follows = next now (later .follows);

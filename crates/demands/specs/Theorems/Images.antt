@@ -11,7 +11,7 @@ use Rattle.image.specs.Loading.{Returned, Read, wrong-memory, not-spelled, read
 use Rattle.image.specs.Laws.Only.{only-image}
 use Rattle.demands.specs.Images.{Untouched, Spelled}
 
--- Demand 1: whatever the reader refuses, the lent memory is as it was, the machine fresh and the budget 0. This rules out a memory
+-- Demand 1: whatever the reader refuses, the lent memory is as it was, the machine fresh, budget and sum 0. This rules out a memory
 -- that is filled before the whole file is judged.
 pub refused-image : {file before after : List ℕ} {returned : Returned} → Read file before after returned → (answer : ℕ) →
     returned .says ≡ refuses answer → Untouched before after returned answer

@@ -1,6 +1,6 @@
 -- Every run is a history, and so is any number of runs with the host's changes of memory between them; demand 3 holds over them.
 use mathlib.Core.Logic.{_⊎_}
-use mathlib.Core.Path.{_≡_, refl, ap, _∙_}
+use mathlib.Core.Path.{_≡_, refl, sym, ap, _∙_, subst}
 use mathlib.Core.Bool.{Bool, true, false}
 use mathlib.Core.List.{List, [], _∷_}
 use Prim.Native.Nat.{ℕ}
@@ -8,8 +8,10 @@ use native.Mathlib.Omega.{arith}
 use Rattle.machine.specs.Reach.{alone}
 use Rattle.machine.specs.State.{wellFormed, Whole}
 use Rattle.machine.specs.Run.{After, ended, runFrom, runOf, acceptable}
+use Rattle.machine.specs.Sum.{runSummed}
 use Rattle.machine.specs.Laws.Kept.{formed-true}
 use Rattle.machine.specs.Laws.Accepted.{taken}
+use Rattle.machine.specs.Laws.Summed.{budgetWith, as-run}
 use Rattle.machine.specs.declared.Machine.{Machine}
 use Rattle.demands.specs.History.{World, world, worldAfter, step, host, History, here, then, joined, stepsIn, Resets}
 use Rattle.demands.specs.Back.{Loses, through, Back}
@@ -20,10 +22,9 @@ use Rattle.demands.specs.Laws.Lowest.{clash}
 use Rattle.demands.specs.Theorems.Two.{declines}
 use Rattle.demands.specs.Theorems.Three.{three}
 
--- A run is a history of completed instructions, with the steps and the cycles that it reports.
-pub run-history : (memory : List ℕ) (m : Machine) (budget : ℕ) → RunHistory (world memory m) (runOf memory m budget)
+bare-history : (memory : List ℕ) (m : Machine) (budget : ℕ) → RunHistory (world memory m) (runOf memory m budget)
 unfolding runOf
-run-history memory m budget = go (acceptable memory m budget)
+bare-history memory m budget = go (acceptable memory m budget)
   where
     go : (b : Bool) →
         RunHistory (world memory m) (elim b as (λ x. After) [ true ↦ runFrom alone false budget memory m 0 0 | false ↦ ended 2 memory m 0 0 ])
@@ -32,20 +33,30 @@ run-history memory m budget = go (acceptable memory m budget)
         record { history = c .history; unbroken = c .unbroken; under = c .under; steps = omega (arith, c .steps); cycles = omega (arith, c .cycles) }
     go false = record { history = here; unbroken = tt; under = tt; steps = refl; cycles = refl }
 
+-- A run is a history of completed instructions, with the steps and the cycles that it reports.
+pub run-history : (memory : List ℕ) (m : Machine) (budget sum : ℕ) → RunHistory (world memory m) (runSummed memory m budget sum .after)
+run-history memory m budget sum =
+    subst (RunHistory (world memory m)) (sym (as-run memory m budget sum)) (bare-history memory m (budgetWith sum budget))
+
 -- Any number of runs is one history, from the machine that the first was given to what the last one left.
 pub session-history : (w : World) (runs : List Given) → SessionHistory w runs
 session-history w [] = record { history = here; follows = none }
 session-history w (g ∷ gs) =
-    let now = run-history (g .memory) (w .machine) (g .budget) in
+    let now = run-history (g .memory) (w .machine) (g .budget) (g .sum) in
     let later = session-history (worldAfter (ranBy w g)) gs in
     record { history = then (host refl) (joined (now .history) (later .history)); follows = next now (later .follows) }
 
 -- a machine that is not well formed is handed back by every run, with no step
 unformed-declined : (w : World) (g : Given) → wellFormed (w .machine) ≡ false → ranBy w g ≡ ended 2 (g .memory) (w .machine) 0 0
-unformed-declined w g unformed = declines (g .memory) (w .machine) (g .budget) (go (acceptable (g .memory) (w .machine) (g .budget)) refl)
+unformed-declined w g unformed =
+    as-run (g .memory) (w .machine) (g .budget) (g .sum)
+    ∙ declines (g .memory) (w .machine) budget (go (acceptable (g .memory) (w .machine) budget) refl)
   where
-    go : (b : Bool) → acceptable (g .memory) (w .machine) (g .budget) ≡ b → acceptable (g .memory) (w .machine) (g .budget) ≡ false
-    go true e = absurd (clash _ (formed-true (w .machine) (taken (g .memory) (w .machine) (g .budget) e .formed)) unformed)
+    budget : ℕ
+    budget = budgetWith (g .sum) (g .budget)
+
+    go : (b : Bool) → acceptable (g .memory) (w .machine) budget ≡ b → acceptable (g .memory) (w .machine) budget ≡ false
+    go true e = absurd (clash _ (formed-true (w .machine) (taken (g .memory) (w .machine) budget e .formed)) unformed)
     go false e = e
 
 unformed-still : {w v : World} {runs : List Given} {h : History w v} → wellFormed (w .machine) ≡ false → Follows w runs h → stepsIn h ≡ 0

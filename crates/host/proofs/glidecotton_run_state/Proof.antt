@@ -1,7 +1,8 @@
--- Made by .ci/named from glidecotton_run_state.rules: 8f673ffea2330f8f 3b6e96035af3476b
+-- Made by .ci/named from glidecotton_run_state.rules: 00d8f35950524385 8d33ef0db0a74c7d
 -- Each way out hands what the called functions ensure to its law.
 use mathlib.Core.Path.{ap, _∙_}
-use Rattle.machine.specs.Run.{runOf}
+use Prim.Native.Nat.{ℕ}
+use Rattle.machine.specs.Sum.{runSummed}
 use Rattle.state.specs.Promise.{saysVerdict}
 use Rattle.host.proofs.Handing.{other-result, other-state, handed-back}
 use borrow.Author.Needs.{needs}
@@ -9,7 +10,7 @@ use Rattle.host.proofs.glidecotton_run_state.Statement.{statement}
 use Rattle.host.proofs.glidecotton_run_state.Tie as tie
 
 returns : tie.Need-returns
-returns c = other-result (c .before .before .before .before .args .state .now) (c .before .before .before .before .args .memory .now) (c .before .before .before .before .args .budget) (c .before .before .before .before .args .result .now) (c .if1 .taken)
+returns c = other-result (c .before .before .before .before .args .state .now) (c .before .before .before .before .args .memory .now) (c .before .before .before .before .args .budget) (c .before .before .before .before .args .sum) (c .before .before .before .before .args .result .now) (c .if1 .taken)
 
 take-requires : tie.Need-take-requires
 take-requires c κs = search needs
@@ -24,7 +25,7 @@ same-length : tie.Need-same-length
 same-length c = search needs
 
 returns-2 : tie.Need-returns-2
-returns-2 c = other-state (c .before .before .before .before .before .before .before .before .args .state .now) (c .before .before .before .before .before .before .before .before .args .memory .now) (c .before .before .before .before .before .before .before .before .args .budget) (c .before .before .before .before .before .before .before .before .args .result .now) _ _ _ (c .before .before .take .ensures) (ap saysVerdict (c .enum-told2 .given .1))
+returns-2 c = other-state (c .before .before .before .before .before .before .before .before .args .state .now) (c .before .before .before .before .before .before .before .before .args .memory .now) (c .before .before .before .before .before .before .before .before .args .budget) (c .before .before .before .before .before .before .before .before .args .sum) (c .before .before .before .before .before .before .before .before .args .result .now) _ _ _ (c .before .before .take .ensures) (ap saysVerdict (c .enum-told2 .given .1))
 
 narrowed-requires : tie.Need-narrowed-requires
 narrowed-requires c κs = search needs
@@ -48,7 +49,7 @@ same-length-4 : tie.Need-same-length-4
 same-length-4 c = search needs
 
 returns-3 : tie.Need-returns-3
-returns-3 c = handed-back (c .before .before .before .before .before .before .before .before .before .before .before .before .before .before .before .before .before .before .before .before .before .before .before .before .before .args .state .now) (c .before .before .before .before .before .before .before .before .before .before .before .before .before .before .before .before .before .before .before .before .before .before .before .before .before .args .memory .now) (c .before .before .before .before .before .before .before .before .before .before .before .before .before .before .before .before .before .before .before .before .before .before .before .before .before .args .budget) (c .before .before .before .before .before .before .before .before .before .before .before .before .before .before .before .before .before .before .before .before .before .before .before .before .before .args .result .now) _ _ _ _ _ _ _ (c .before .before .before .before .before .before .before .before .before .before .before .before .before .before .before .before .before .before .before .take .ensures) (ap saysVerdict (c .before .before .before .before .before .before .before .before .before .before .before .before .before .before .before .before .before .enum-told .given .1)) (c .before .before .before .before .before .before .before .before .before .before .before .before .before .before .before .before .before .before .before .before .before .if1 .left) (c .before .before .before .before .before .before .before .before .before .before .before .before .before .run .ensures ∙ ap (runOf (c .before .before .before .before .before .before .before .before .before .before .before .before .before .before .before .before .before .before .before .before .before .before .before .before .before .args .memory .now) _) (c .before .before .before .before .before .before .before .before .before .before .before .before .before .before .narrowed .ensures)) (c .before .before .before .before .before .before .give .ensures) (c .before .before .give-counts .ensures)
+returns-3 c = handed-back (c .before .before .before .before .before .before .before .before .before .before .before .before .before .before .before .before .before .before .before .before .before .before .before .before .before .before .args .state .now) (c .before .before .before .before .before .before .before .before .before .before .before .before .before .before .before .before .before .before .before .before .before .before .before .before .before .before .args .memory .now) (c .before .before .before .before .before .before .before .before .before .before .before .before .before .before .before .before .before .before .before .before .before .before .before .before .before .before .args .budget) (c .before .before .before .before .before .before .before .before .before .before .before .before .before .before .before .before .before .before .before .before .before .before .before .before .before .before .args .sum) (c .before .before .before .before .before .before .before .before .before .before .before .before .before .before .before .before .before .before .before .before .before .before .before .before .before .before .args .result .now) _ _ _ _ _ _ _ (c .before .before .before .before .before .before .before .before .before .before .before .before .before .before .before .before .before .before .before .before .take .ensures) (ap saysVerdict (c .before .before .before .before .before .before .before .before .before .before .before .before .before .before .before .before .before .before .enum-told .given .1)) (c .before .before .before .before .before .before .before .before .before .before .before .before .before .before .before .before .before .before .before .before .before .before .if1 .left) (c .before .before .before .before .before .before .before .before .before .before .before .before .before .run .ensures ∙ ap (λ (n : ℕ). runSummed (c .before .before .before .before .before .before .before .before .before .before .before .before .before .before .before .before .before .before .before .before .before .before .before .before .before .before .args .memory .now) (c .before .before .before .before .before .before .before .before .before .before .before .before .before .before .before .before .before .before .before .before .take .result .machine) n (c .before .before .before .before .before .before .before .before .before .before .before .before .before .before .before .before .before .before .before .before .before .before .before .before .before .before .args .sum)) (c .before .before .before .before .before .before .before .before .before .before .before .before .before .before .before .narrowed .ensures)) (c .before .before .before .before .before .before .give .ensures) (c .before .before .give-counts .ensures)
 
 pub glidecotton-run-state-spec : {M : Type 1} → statement M
 glidecotton-run-state-spec =

@@ -1,5 +1,5 @@
--- Made by .ci/named from refused.rules: 4cccfaced578edee c7462ad397a62e89
--- A refusal hands back a fresh machine and no budget.
+-- Made by .ci/named from refused.rules: df41c7b0755eeea7 6c293750aa81c215
+-- A refusal hands back a fresh machine, and neither budget nor sum.
 use Rattle.image.specs.Loading.{refusedWith}
 use borrow.Author.Needs.{needs}
 use Rattle.image.proofs.refused.Statement.{statement}

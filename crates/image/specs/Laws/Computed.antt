@@ -11,9 +11,8 @@ use Rattle.plain.specs.Answer.{gives}
 use Rattle.plain.specs.Choice.{pick}
 use Rattle.numbers.specs.Laws.Bytes.{Bytes}
 use Rattle.machine.specs.Limits.{memoryLength}
-use Rattle.plain.specs.Zeros.{padded}
 use Rattle.image.specs.Format.{Image, Spellable, spelled}
-use Rattle.image.specs.Loading.{Returned, Reading, Read, wrong-memory, not-spelled, read, loadedFrom, refusedWith, otherMemory}
+use Rattle.image.specs.Loading.{Returned, Reading, Read, wrong-memory, not-spelled, read, filled, loadedFrom, refusedWith, otherMemory}
 use Rattle.image.specs.Judging.{badFile, Finding, fails, finds, answerOf, saysJudged, judgedOf, spansOf, Says, spells, spells-none, Judges}
 use Rattle.image.specs.Laws.Sound.{imageIn, good-file, image-spellable, image-spells}
 use Rattle.image.specs.Laws.Complete.{accepted}
@@ -25,8 +24,7 @@ use Rattle.image.specs.declared.Judged.the-variants as judged
 
 abbrev pub judgedReading : List ℕ → List ℕ → Finding Spans → Reading
 judgedReading file before (fails number fault) = record { memory = before; returned = refusedWith badFile }
-judgedReading file before (finds spans) =
-    record { memory = padded memoryLength (imageIn file spans .memory); returned = loadedFrom (imageIn file spans) }
+judgedReading file before (finds spans) = record { memory = filled (imageIn file spans); returned = loadedFrom (imageIn file spans) }
 
 unfoldable pub readOf : List ℕ → List ℕ → Reading
 readOf file before =

@@ -2,10 +2,8 @@
 use mathlib.Core.List.{List}
 use mathlib.Core.Path.{_≡_, refl, sym, ap, _∙_}
 use Prim.Native.Nat.{ℕ}
-use Rattle.machine.specs.Limits.{memoryLength}
-use Rattle.plain.specs.Zeros.{padded}
 use Rattle.image.specs.Format.{Image, Spellable, spelled, limits, longestFile}
-use Rattle.image.specs.Loading.{saysVerdict, Returned, returned, Reading, Read, wrong-memory, not-spelled, read, loadedFrom}
+use Rattle.image.specs.Loading.{saysVerdict, Returned, returned, Reading, Read, wrong-memory, not-spelled, read, filled, loadedFrom}
 use Rattle.image.specs.Judging.{finds, saysJudged, judgedOf, spansOf, Judges}
 use Rattle.image.specs.Laws.Sound.{imageIn}
 use Rattle.image.specs.Laws.Complete.{found, accepted}
@@ -52,7 +50,7 @@ only-reading file before m₁ m₂ h₁ h₂ (not-spelled e n) (read j f b s) = 
 only-reading file before m₁ m₂ h₁ h₂ (read i e a s) (wrong-memory h) = absurd (h e)
 only-reading file before m₁ m₂ h₁ h₂ (read i e a s) (not-spelled f n) = absurd (n i a s)
 only-reading file before m₁ m₂ h₁ h₂ (read i e a s) (read j f b t) =
-    ap (λ (x : Image). record { memory = padded memoryLength (x .memory); returned = loadedFrom x }) (only-image i j a b (s ∙ sym t))
+    ap (λ (x : Image). record { memory = filled x; returned = loadedFrom x }) (only-image i j a b (s ∙ sym t))
 
 same-verdict : (a b : Verdict) → saysVerdict a ≡ saysVerdict b → a ≡ b
 same-verdict verdict.Good verdict.Good e = refl
@@ -65,5 +63,5 @@ only-read file before x y a b h k =
     let same = only-reading file before x y (returned a) (returned b) h k in
     let v = same-verdict (a .verdict) (b .verdict) (ap (λ (r : Reading). r .returned .says) same) in (
       ap (λ (r : Reading). r .memory) same,
-      λ i. record { verdict = v i; machine = same i .returned .machine; budget = same i .returned .budget },
+      λ i. record { verdict = v i; machine = same i .returned .machine; budget = same i .returned .budget; sum = same i .returned .sum },
     )

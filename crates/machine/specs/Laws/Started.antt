@@ -15,7 +15,7 @@ use Rattle.machine.specs.Limits.{memoryLength}
 use Rattle.machine.specs.State.{machineWith}
 use Rattle.machine.specs.Fits.{AllBytes, Exist}
 
-padded-long : (size : ℕ) (l : List ℕ) → length l ≤ size → length (padded size l) ≡ size
+pub padded-long : (size : ℕ) (l : List ℕ) → length l ≤ size → length (padded size l) ≡ size
 unfolding padded
 padded-long size l within =
     let more = size - length l in

@@ -1,4 +1,4 @@
--- Made by .ci/named from glidecotton_read_image.rules: 5a6168ab4a344b22 9404f9ca11cb4746
+-- Made by .ci/named from glidecotton_read_image.rules: 6fc39730eba14207 0b38d566dbca98fb
 -- Each way out hands what the called functions ensure to its law.
 use Rattle.reader.proofs.HandingOut.{other-state, other-result, not-read, handed-out}
 use borrow.Author.Needs.{needs}
@@ -38,6 +38,9 @@ cast-write-eight c = search needs
 write-eight-requires : tie.Need-write-eight-requires
 write-eight-requires c κs = search needs
 
+write-eight-requires-2 : tie.Need-write-eight-requires-2
+write-eight-requires-2 c κs = search needs
+
 same-length-2 : tie.Need-same-length-2
 same-length-2 c = search needs
 
@@ -48,7 +51,7 @@ same-length-4 : tie.Need-same-length-4
 same-length-4 c = search needs
 
 returns-4 : tie.Need-returns-4
-returns-4 c = handed-out (c .before .before .before .before .before .before .before .before .before .before .before .before .before .before .before .before .before .before .before .before .before .before .args .image .now) (c .before .before .before .before .before .before .before .before .before .before .before .before .before .before .before .before .before .before .before .before .before .before .args .memory .now) (c .before .before .before .before .before .before .before .before .before .before .before .before .before .before .before .before .before .before .before .before .before .before .args .state .now) (c .before .before .before .before .before .before .before .before .before .before .before .before .before .before .before .before .before .before .before .before .before .before .args .result .now) _ _ (c .before .before .before .before .before .before .before .before .before .before .before .before .before .before .before .before .before .if1 .left) (c .before .before .before .before .before .before .before .before .before .before .before .before .before .before .before .before .if2 .left) (c .before .before .before .before .before .before .before .before .before .before .before .before .before .before .read .ensures) _ _ _ (c .before .before .before .before .before .before .before .before .before .before .enum-told .given .1) (c .before .before .before .before .before .before .before .give .ensures) (c .before .before .write-eight .ensures)
+returns-4 c = handed-out (c .before .before .before .before .before .before .before .before .before .before .before .before .before .before .before .before .before .before .before .before .before .before .before .before .before .before .args .image .now) (c .before .before .before .before .before .before .before .before .before .before .before .before .before .before .before .before .before .before .before .before .before .before .before .before .before .before .args .memory .now) (c .before .before .before .before .before .before .before .before .before .before .before .before .before .before .before .before .before .before .before .before .before .before .before .before .before .before .args .state .now) (c .before .before .before .before .before .before .before .before .before .before .before .before .before .before .before .before .before .before .before .before .before .before .before .before .before .before .args .result .now) _ _ (c .before .before .before .before .before .before .before .before .before .before .before .before .before .before .before .before .before .before .before .before .before .if1 .left) (c .before .before .before .before .before .before .before .before .before .before .before .before .before .before .before .before .before .before .before .before .if2 .left) (c .before .before .before .before .before .before .before .before .before .before .before .before .before .before .before .before .before .before .read .ensures) _ _ _ _ (c .before .before .before .before .before .before .before .before .before .before .before .before .before .before .enum-told .given .1) (c .before .before .before .before .before .before .before .before .before .before .before .give .ensures) (c .before .before .before .before .before .before .write-eight .ensures) (c .before .before .write-eight2 .ensures)
 
 pub glidecotton-read-image-spec : {M : Type 1} → statement M
 glidecotton-read-image-spec =
@@ -65,6 +68,7 @@ glidecotton-read-image-spec =
     give-requires
     cast-write-eight
     write-eight-requires
+    write-eight-requires-2
     same-length-2
     same-length-3
     same-length-4

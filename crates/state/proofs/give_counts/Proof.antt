@@ -1,4 +1,4 @@
--- Made by .ci/named from give_counts.rules: 6aeba08772e4a89d 3e5955ca02bed59f
+-- Made by .ci/named from give_counts.rules: 6aeba08772e4a89d ce07db1a7f9be87d
 -- The numbers fill the buffer.
 use Rattle.state.specs.Layout.{resultFields, result}
 use Rattle.state.specs.Promise.{wrong-size}
@@ -25,11 +25,14 @@ cast-put-pointer-2 c = search needs
 put-pointer-requires-3 : tie.Need-put-pointer-requires-3
 put-pointer-requires-3 c κs = search needs
 
+put-pointer-requires-4 : tie.Need-put-pointer-requires-4
+put-pointer-requires-4 c κs = search needs
+
 same-length : tie.Need-same-length
 same-length c = search needs
 
 returns-2 : tie.Need-returns-2
-returns-2 c = put-whole result _ (c .before .before .before .before .before .before .before .before .before .before .before .before .before .before .before .before .args .result .now) _ (c .before .before .before .before .before .before .before .before .before .before .before .before .before .before .if1 .left) (fields-put resultFields _ (c .before .before .before .before .before .before .before .before .before .before .before .before .before .before .before .before .args .result .now) 0 _ (c .before .before .before .before .before .before .before .before .before .before .before .before .put-pointer .ensures first c .before .before .before .before .before .before .before .put-pointer2 .ensures then c .before .before .put-pointer3 .ensures then none))
+returns-2 c = put-whole result _ (c .before .before .before .before .before .before .before .before .before .before .before .before .before .before .before .before .before .before .before .before .args .result .now) _ (c .before .before .before .before .before .before .before .before .before .before .before .before .before .before .before .before .before .before .if1 .left) (fields-put resultFields _ (c .before .before .before .before .before .before .before .before .before .before .before .before .before .before .before .before .before .before .before .before .args .result .now) 0 _ (c .before .before .before .before .before .before .before .before .before .before .before .before .before .before .before .before .put-pointer .ensures first c .before .before .before .before .before .before .before .before .before .before .before .put-pointer2 .ensures then c .before .before .before .before .before .before .put-pointer3 .ensures then c .before .before .put-pointer4 .ensures then none))
 
 pub give-counts-spec : {M : Type 1} → statement M
 give-counts-spec =
@@ -41,5 +44,6 @@ give-counts-spec =
     put-pointer-requires-2
     cast-put-pointer-2
     put-pointer-requires-3
+    put-pointer-requires-4
     same-length
     returns-2)

@@ -40,9 +40,9 @@ frame-takes = refl
 pub level-takes : level .width ≡ 52
 level-takes = refl
 
--- answer, steps, cycles
-pub result-places : placesFrom 0 resultFields ≡ 0 ∷ 8 ∷ 16 ∷ []
+-- answer, steps, cycles, memory sum
+pub result-places : placesFrom 0 resultFields ≡ 0 ∷ 8 ∷ 16 ∷ 24 ∷ []
 result-places = refl
 
-pub result-takes : result .width ≡ 24
+pub result-takes : result .width ≡ 32
 result-takes = refl

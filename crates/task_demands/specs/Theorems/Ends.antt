@@ -5,16 +5,17 @@ use mathlib.Core.List.{List}
 use Prim.Native.Nat.{ℕ, zero, suc, _≤_, _<_}
 use native.Mathlib.Omega.{arith}
 use borrow.Author.Tests.{eqb-true, eqb-false}
-use lib.Dec.{eqb}
+use lib.Dec.{leb, eqb}
 use lib.ListN.{length}
 use Rattle.plain.specs.Answer.{notAsAsked}
 use Rattle.machine.specs.Laws.Circular.{next-ready}
-use Rattle.machine.specs.Limits.{tasksCount}
+use Rattle.machine.specs.Limits.{tasksCount, mostSum}
 use Rattle.machine.specs.Reach.{task}
+use Rattle.machine.specs.Sum.{sumAfter, sum-declined, sum-taken}
 use Rattle.machine.specs.Tasks.{Task, taskAt, Whose, nobodys, ofTask, nextReady, Between, TasksAfter, endedAt, startOf, turnLength, turnOf, afterTurn, TurnsFrom, spent, idle, turn, tasksAcceptable, declined, ran}
 use Rattle.machine.specs.Laws.After.{as-many}
 use Rattle.machine.specs.Laws.Turns.{turn-within, turn-steps, turn-length, turn-moves, toGo, less-to-go}
-use Rattle.task_demands.specs.Ends.{Ends}
+use Rattle.task_demands.specs.Ends.{Ends, EndsSummed}
 use Rattle.machine.specs.Laws.TasksTaken.{taken}
 
 -- a run from here
@@ -61,3 +62,10 @@ ends mem tasks quantum budget = go (tasksAcceptable mem tasks quantum budget) re
         let run = ends-from quantum (t .some) (toGo start) start (omega arith) (omega arith) (t .four) in
         record { end = run .end; runs = ran e (run .turns) }
     go false e = record { end = endedAt notAsAsked (startOf mem tasks budget); runs = declined e }
+
+pub ends-summed : (mem : List ℕ) (tasks : List Task) (quantum budget sum : ℕ) → EndsSummed mem tasks quantum budget sum
+ends-summed mem tasks quantum budget sum = go (leb sum mostSum) refl
+  where
+    go : (b : Bool) → leb sum mostSum ≡ b → EndsSummed mem tasks quantum budget sum
+    go true e = let run = ends mem tasks quantum budget in record { end = run .end; left = sumAfter sum mem (run .end .memory); runs = sum-taken e (run .runs) }
+    go false e = record { end = endedAt notAsAsked (startOf mem tasks budget); left = sum; runs = sum-declined e }

@@ -1,4 +1,4 @@
--- Made by .ci/named from glidecotton_run_tasks.rules: 44e7403339f52bcc 9185d1f1f00033f9
+-- Made by .ci/named from glidecotton_run_tasks.rules: 3fc83676529561a0 eec9eafd3b4b4d9c
 -- Each way out hands what the called functions ensure to its law.
 use mathlib.Core.Path.{ap, sym}
 use Rattle.machine.specs.Tasks.{tasksAfterOf}
@@ -9,7 +9,7 @@ use Rattle.tasks.proofs.glidecotton_run_tasks.Statement.{statement}
 use Rattle.tasks.proofs.glidecotton_run_tasks.Tie as tie
 
 returns : tie.Need-returns
-returns c = other-result (c .before .before .before .before .args .tasks .now) (c .before .before .before .before .args .memory .now) (c .before .before .before .before .args .quantum) (c .before .before .before .before .args .budget) (c .before .before .before .before .args .result .now) (c .if1 .taken)
+returns c = other-result (c .before .before .before .before .args .tasks .now) (c .before .before .before .before .args .memory .now) (c .before .before .before .before .args .quantum) (c .before .before .before .before .args .budget) (c .before .before .before .before .args .sum) (c .before .before .before .before .args .result .now) (c .if1 .taken)
 
 take-tasks-requires : tie.Need-take-tasks-requires
 take-tasks-requires c κs = search needs
@@ -24,7 +24,7 @@ same-length : tie.Need-same-length
 same-length c = search needs
 
 returns-2 : tie.Need-returns-2
-returns-2 c = other-tasks (c .before .before .before .before .before .before .before .before .args .tasks .now) (c .before .before .before .before .before .before .before .before .args .memory .now) (c .before .before .before .before .before .before .before .before .args .quantum) (c .before .before .before .before .before .before .before .before .args .budget) (c .before .before .before .before .before .before .before .before .args .result .now) _ _ _ (c .before .before .take-tasks .ensures) (ap saysVerdict (c .enum-told2 .given .1))
+returns-2 c = other-tasks (c .before .before .before .before .before .before .before .before .args .tasks .now) (c .before .before .before .before .before .before .before .before .args .memory .now) (c .before .before .before .before .before .before .before .before .args .quantum) (c .before .before .before .before .before .before .before .before .args .budget) (c .before .before .before .before .before .before .before .before .args .sum) (c .before .before .before .before .before .before .before .before .args .result .now) _ _ _ (c .before .before .take-tasks .ensures) (ap saysVerdict (c .enum-told2 .given .1))
 
 narrowed-requires : tie.Need-narrowed-requires
 narrowed-requires c κs = search needs
@@ -51,7 +51,7 @@ same-length-4 : tie.Need-same-length-4
 same-length-4 c = search needs
 
 returns-3 : tie.Need-returns-3
-returns-3 c = handed-back (c .before .before .before .before .before .before .before .before .before .before .before .before .before .before .before .before .before .before .before .before .before .before .before .before .before .before .args .tasks .now) (c .before .before .before .before .before .before .before .before .before .before .before .before .before .before .before .before .before .before .before .before .before .before .before .before .before .before .args .memory .now) (c .before .before .before .before .before .before .before .before .before .before .before .before .before .before .before .before .before .before .before .before .before .before .before .before .before .before .args .quantum) (c .before .before .before .before .before .before .before .before .before .before .before .before .before .before .before .before .before .before .before .before .before .before .before .before .before .before .args .budget) (c .before .before .before .before .before .before .before .before .before .before .before .before .before .before .before .before .before .before .before .before .before .before .before .before .before .before .args .result .now) _ _ _ _ (tasksAfterOf (c .before .before .before .before .before .before .before .before .before .before .before .before .before .run-tasks .last .0) (c .before .before .before .before .before .before .before .before .before .before .before .before .before .run-tasks .result)) _ _ (c .before .before .before .before .before .before .before .before .before .before .before .before .before .before .before .before .before .before .before .before .take-tasks .ensures) (ap saysVerdict (c .before .before .before .before .before .before .before .before .before .before .before .before .before .before .before .before .before .before .enum-told .given .1)) (c .before .before .before .before .before .before .before .before .before .before .before .before .before .before .before .before .before .before .before .before .before .before .if1 .left) (rw (sym (c .before .before .before .before .before .before .before .before .before .before .before .before .before .before .before .before .narrowed .ensures), sym (c .before .before .before .before .before .before .before .before .before .before .before .before .before .before .narrowed2 .ensures)) (c .before .before .before .before .before .before .before .before .before .before .before .before .before .run-tasks .ensures)) (c .before .before .before .before .before .before .give-tasks .ensures) (c .before .before .give-counts .ensures)
+returns-3 c = handed-back (c .before .before .before .before .before .before .before .before .before .before .before .before .before .before .before .before .before .before .before .before .before .before .before .before .before .before .before .args .tasks .now) (c .before .before .before .before .before .before .before .before .before .before .before .before .before .before .before .before .before .before .before .before .before .before .before .before .before .before .before .args .memory .now) (c .before .before .before .before .before .before .before .before .before .before .before .before .before .before .before .before .before .before .before .before .before .before .before .before .before .before .before .args .quantum) (c .before .before .before .before .before .before .before .before .before .before .before .before .before .before .before .before .before .before .before .before .before .before .before .before .before .before .before .args .budget) (c .before .before .before .before .before .before .before .before .before .before .before .before .before .before .before .before .before .before .before .before .before .before .before .before .before .before .before .args .sum) (c .before .before .before .before .before .before .before .before .before .before .before .before .before .before .before .before .before .before .before .before .before .before .before .before .before .before .before .args .result .now) _ _ _ _ (tasksAfterOf (c .before .before .before .before .before .before .before .before .before .before .before .before .before .run-tasks .last .0) (c .before .before .before .before .before .before .before .before .before .before .before .before .before .run-tasks .result)) _ _ _ (c .before .before .before .before .before .before .before .before .before .before .before .before .before .before .before .before .before .before .before .before .before .take-tasks .ensures) (ap saysVerdict (c .before .before .before .before .before .before .before .before .before .before .before .before .before .before .before .before .before .before .before .enum-told .given .1)) (c .before .before .before .before .before .before .before .before .before .before .before .before .before .before .before .before .before .before .before .before .before .before .before .if1 .left) (rw (sym (c .before .before .before .before .before .before .before .before .before .before .before .before .before .before .before .before .before .narrowed .ensures), sym (c .before .before .before .before .before .before .before .before .before .before .before .before .before .before .before .before .narrowed2 .ensures)) (c .before .before .before .before .before .before .before .before .before .before .before .before .before .run-tasks .ensures)) (c .before .before .before .before .before .before .give-tasks .ensures) (c .before .before .give-counts .ensures)
 
 pub glidecotton-run-tasks-spec : {M : Type 1} → statement M
 glidecotton-run-tasks-spec =

@@ -1,4 +1,4 @@
--- A quantum or a budget that 32 bits do not hold is refused as every one above its limit is.
+-- A quantum or a budget that 32 bits do not hold is refused as every one above its limit is, whatever the sum.
 use mathlib.Core.Bool.{Bool, true, false}
 use mathlib.Core.List.{List}
 use mathlib.Core.Path.{_≡_, refl, ap, subst, _∙_}
@@ -9,6 +9,7 @@ use lib.Dec.{ltb}
 use Rattle.plain.specs.Choice.{pick}
 use Rattle.machine.specs.Limits.{mostBudget, mostQuantum}
 use Rattle.machine.specs.Tasks.{Task, TasksAfter, tasksAcceptable, RunsTasks, declined, ran}
+use Rattle.machine.specs.Sum.{RunsTasksSummed, sum-declined, sum-taken}
 use Rattle.machine.specs.Laws.Clash.{clash}
 use Rattle.machine.specs.Laws.TasksTaken.{taken}
 
@@ -44,9 +45,13 @@ module _ (mem : List ℕ) (tasks : List Task) (quantum budget : ℕ) where
           clash (tasksAcceptable mem tasks q b) (ap (λ (n : ℕ). tasksAcceptable mem tasks n b) eq ∙ (ap (tasksAcceptable mem tasks quantum) eb ∙ e)) bad
       go false e = e
 
-  pub same-run : {end : TasksAfter} → RunsTasks mem tasks q b end → RunsTasks mem tasks quantum budget end
-  same-run (declined bad) = declined (same-verdict bad)
-  same-run {end} (ran ok turns) =
+  same-end : {end : TasksAfter} → RunsTasks mem tasks q b end → RunsTasks mem tasks quantum budget end
+  same-end (declined bad) = declined (same-verdict bad)
+  same-end {end} (ran ok turns) =
       let t = taken mem tasks q b ok in
       subst (λ (n : ℕ). RunsTasks mem tasks quantum n end) (narrowed-same mostBudget budget (t .limit))
       (subst (λ (n : ℕ). RunsTasks mem tasks n b end) (narrowed-same mostQuantum quantum (t .most)) (ran ok turns))
+
+  pub same-run : {sum left : ℕ} {end : TasksAfter} → RunsTasksSummed mem tasks q b sum end left → RunsTasksSummed mem tasks quantum budget sum end left
+  same-run (sum-declined above) = sum-declined above
+  same-run (sum-taken within runs) = sum-taken within (same-end runs)

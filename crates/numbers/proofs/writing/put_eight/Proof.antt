@@ -1,6 +1,6 @@
--- Made by .ci/named from put_eight.rules: f629db76304f9b9c 81eaf4dea9fa97a9
+-- Made by .ci/named from put_eight.rules: f2b718f2c8ef0265 f484f66c00e2bcab
 -- The high half, then the low half after it.
-use Rattle.numbers.proofs.Storing.{eight-stored}
+use Rattle.numbers.specs.Laws.Storing.{eight-stored}
 use borrow.Author.Needs.{needs}
 use Rattle.numbers.proofs.writing.put_eight.Statement.{statement}
 use Rattle.numbers.proofs.writing.put_eight.Tie as tie

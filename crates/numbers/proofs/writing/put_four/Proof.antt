@@ -1,8 +1,8 @@
--- Made by .ci/named from put_four.rules: 90604a7b61de3daf ed9c3407250a01fb
+-- Made by .ci/named from put_four.rules: 7f5b337141a0ef5e 6c2ce0a11f0375b2
 -- Four stores in a row.
 use native.Mathlib.Omega.{arith}
 use lib.ListN.{length-set}
-use Rattle.numbers.proofs.Storing.{four-stored}
+use Rattle.numbers.specs.Laws.Storing.{four-stored}
 use borrow.Author.Needs.{needs}
 use Rattle.numbers.proofs.writing.put_four.Statement.{statement}
 use Rattle.numbers.proofs.writing.put_four.Tie as tie

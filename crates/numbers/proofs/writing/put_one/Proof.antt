@@ -1,6 +1,6 @@
--- Made by .ci/named from put_one.rules: caa7963ce52c4620 2ac156f7f005191a
+-- Made by .ci/named from put_one.rules: 1cdbef5e9f9e1ce7 7bf3ed896cdf11b1
 -- One store.
-use Rattle.numbers.proofs.Storing.{one-stored}
+use Rattle.numbers.specs.Laws.Storing.{one-stored}
 use borrow.Author.Needs.{needs}
 use Rattle.numbers.proofs.writing.put_one.Statement.{statement}
 use Rattle.numbers.proofs.writing.put_one.Tie as tie

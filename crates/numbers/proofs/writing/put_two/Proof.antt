@@ -1,8 +1,8 @@
--- Made by .ci/named from put_two.rules: ecb29714ca08927e 121bb46ed0e2076c
+-- Made by .ci/named from put_two.rules: ef85d4fb99e80db1 c3b38a3417e7a7c5
 -- Two stores in a row.
 use native.Mathlib.Omega.{arith}
 use lib.ListN.{length-set}
-use Rattle.numbers.proofs.Storing.{two-stored}
+use Rattle.numbers.specs.Laws.Storing.{two-stored}
 use borrow.Author.Needs.{needs}
 use Rattle.numbers.proofs.writing.put_two.Statement.{statement}
 use Rattle.numbers.proofs.writing.put_two.Tie as tie

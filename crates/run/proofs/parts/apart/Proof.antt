@@ -1,6 +1,7 @@
--- Made by .ci/named from apart.rules: 18a497102a125b91 98d9ddfef45fa2b5
+-- Made by .ci/named from apart.rules: 773ece3814d27085 302c8640f14dc187
 -- The subroutine levels, then the exception levels, then the last THROW.
-use mathlib.Core.Path.{_∙_}
+use mathlib.Core.Path.{ap, _∙_}
+use Rattle.run.specs.Levels.{Note}
 use borrow.Author.Needs.{needs}
 use Rattle.run.proofs.parts.apart.Statement.{statement}
 use Rattle.run.proofs.parts.apart.Tie as tie
@@ -15,7 +16,7 @@ note-requires : tie.Need-note-requires
 note-requires c κs = search needs
 
 returns : tie.Need-returns
-returns c = record { laid = (c .note .ensures (c .before .before .levels-apart .last .1 .1 .0) (c .before .before .levels-apart .ensures .laid)) .laid; frames-are = (c .note .ensures (c .before .before .levels-apart .last .1 .1 .0) (c .before .before .levels-apart .ensures .laid)) .frames-are ∙ (c .before .before .levels-apart .ensures .frames-are ∙ c .before .before .before .before .before .frames-apart .ensures .frames-are); levels-are = (c .note .ensures (c .before .before .levels-apart .last .1 .1 .0) (c .before .before .levels-apart .ensures .laid)) .levels-are ∙ c .before .before .levels-apart .ensures .levels-are; note-is = (c .note .ensures (c .before .before .levels-apart .last .1 .1 .0) (c .before .before .levels-apart .ensures .laid)) .note-is }
+returns c = record { laid = (c .note .ensures (c .before .before .levels-apart .last .1 .1 .0) (c .before .before .levels-apart .ensures .laid)) .laid; frames-are = (c .note .ensures (c .before .before .levels-apart .last .1 .1 .0) (c .before .before .levels-apart .ensures .laid)) .frames-are ∙ (c .before .before .levels-apart .ensures .frames-are ∙ c .before .before .before .before .before .frames-apart .ensures .frames-are); levels-are = (c .note .ensures (c .before .before .levels-apart .last .1 .1 .0) (c .before .before .levels-apart .ensures .laid)) .levels-are ∙ c .before .before .levels-apart .ensures .levels-are; note-is = (c .note .ensures (c .before .before .levels-apart .last .1 .1 .0) (c .before .before .levels-apart .ensures .laid)) .note-is ∙ ap (λ (n : Note). record { thrown = c .before .before .before .before .before .before .before .before .before .before .args .thrown; lost = n .lost }) (c .before .before .levels-apart .ensures .note-is ∙ c .before .before .before .before .before .frames-apart .ensures .note-is) }
 
 pub apart-spec : {M : Type 1} → statement M
 apart-spec =

@@ -1,9 +1,9 @@
--- Made by .ci/named from rounds.rules: fc59a04f0927cd24 49a040e2cb78ef5a
+-- Made by .ci/named from rounds.rules: e201ccebe6d707a7 6a3f74aea7d62ac4
 -- The loop is the definition's run: each round is one step of `stepOf`, and what ends it is the definition's own.
 use mathlib.Core.Path.{_≡_, refl, ap, sym, _∙_}
 use mathlib.Core.Bool.{false}
 use mathlib.Core.Logic.{inl, inr}
-use Prim.Native.Nat.{ℕ, _+_, _-_, _*_, _<_}
+use Prim.Native.Nat.{ℕ, _+_, _-_, _*_, _%_, _^_, _<_}
 use native.Mathlib.Omega.{arith}
 use lib.ListN.{getD}
 use Rattle.plain.specs.Answer.{refuses}
@@ -15,14 +15,17 @@ use Rattle.reach.specs.Spots.{widthOf}
 use Rattle.reach.specs.Spots.{saysReached}
 use Rattle.run.specs.Answers.{saysFetched, saysChecked, saysExit, saysThrown, saysDone}
 use Rattle.run.specs.Registers.{machineIn, haltedBy}
-use Rattle.run.specs.Levels.{framesIn, levelsIn, noteIn, inRows, Laid}
+use Rattle.machine.specs.Memory.{size}
+use Rattle.machine.specs.Sum.{sumAfter}
+use Rattle.run.specs.Levels.{framesIn, levelsIn, Note, noteIn, inRows, Laid}
 use Rattle.run.specs.Verdicts.{sAfterPop, eAfterDropOf, eAfterPop}
 use Rattle.reach.specs.declared.Reached.the-variants as reached
 use Rattle.run.specs.declared.Thrown.the-variants as thrown
 use Rattle.run.proofs.Answered.{told}
-use Rattle.run.proofs.Arms.{push-acts, copy-acts, pop-acts, catch-acts, reset-acts, throw-acts, exit-acts, call-acts, call-top-acts, fetch-acts, fetchedAs, store-acts, fetched-whole, kept-whole, long-fetch, long-store, written-there, thrown-there, held-there, cells-acts, cells-end, pause-is}
+use Rattle.run.proofs.Arms.{push-acts, copy-acts, pop-acts, catch-acts, reset-acts, throw-acts, exit-acts, call-acts, call-top-acts, fetch-acts, fetchedAs, store-acts, fetched-whole, kept-whole, long-fetch, written-there, thrown-there, held-there, cells-acts, cells-end, pause-is}
 use Rattle.run.proofs.Levels.{caught-above}
 use Rattle.run.proofs.Loop.{starts}
+use Rattle.run.proofs.Losses.{size-few, nothing-lost, stored-loses}
 use Rattle.run.proofs.Rooms.{push-room, read-room, call-room, catch-room, exit-room, zero-room, code-room, memory-room, view-room, spot-within}
 use Rattle.run.proofs.Rounds.{Round, begins, Found, ends, goes, paused, fetch-ends, foreign-ends, halted-less}
 use borrow.Author.Needs.{needs}
@@ -31,8 +34,8 @@ use Rattle.run.proofs.round.rounds.Tie as tie
 
 abbrev Inv-loop : tie.InvT-loop
 Inv-loop mem₀ cells₀ returns₀ rows₀ copies₀ costs left reach turns regs₀ mem cells returns rows copies regs =
-    Round reach turns mem₀ (machineIn cells₀ returns₀ (framesIn rows₀ copies₀) (levelsIn rows₀ copies₀) (noteIn rows₀) regs₀) left mem cells returns (framesIn rows copies) (levelsIn rows copies) (noteIn rows) regs ×
-    ((costs ≡ cycleTable) × Laid rows copies)
+    Round reach turns mem₀ (machineIn cells₀ returns₀ (framesIn rows₀ copies₀) (levelsIn rows₀ copies₀) (noteIn rows₀ .thrown) regs₀) left mem cells returns (framesIn rows copies) (levelsIn rows copies) (noteIn rows .thrown) regs ×
+    ((costs ≡ cycleTable) × (Laid rows copies × (noteIn rows .lost % 2 ^ 32 ≡ sumAfter (noteIn rows₀ .lost) mem mem₀)))
 
 abbrev μ-loop : tie.MeasureT-loop
 μ-loop mem₀ cells₀ returns₀ rows₀ copies₀ costs left reach turns regs₀ mem cells returns rows copies regs = regs .left .0
@@ -53,7 +56,7 @@ found : (t : tie.After-known-told Inv-loop μ-loop) →
     let f = t .before .fetched .given .0 in
     let a = start-of t .args in
     Found (a .reach) (a .turns) (a .mem .now) (inRows (a .cells .now) (a .returns .now) (a .rows .now) (a .copies .now) (a .start)) (a .left)
-    (l .mem) (l .cells) (l .returns) (framesIn (l .rows) (l .copies)) (levelsIn (l .rows) (l .copies)) (noteIn (l .rows)) (l .regs) (f .0) (f .1 .0) (f .1 .1 .0)
+    (l .mem) (l .cells) (l .returns) (framesIn (l .rows) (l .copies)) (levelsIn (l .rows) (l .copies)) (noteIn (l .rows) .thrown) (l .regs) (f .0) (f .1 .0) (f .1 .1 .0)
 found t =
     record {
       round = loop-of t .loop .inv .0;
@@ -71,7 +74,7 @@ no-pause : {code : ℕ} → 0x7F < code → code ≡ codePAUSE → ⊥
 no-pause above h = omega arith
 
 loop-holds : tie.Need-loop-holds Inv-loop μ-loop
-loop-holds c = (begins refl refl refl refl (starts (c .before .args .reach) (c .before .args .turns) (c .before .args .mem .now) _ (c .before .args .left) (c .before .pre .accepted) (c .before .pre .whole)), (c .before .pre .priced, c .before .pre .laid))
+loop-holds c = (begins refl refl refl refl (starts (c .before .args .reach) (c .before .args .turns) (c .before .args .mem .now) _ (c .before .args .left) (c .before .pre .accepted) (c .before .pre .whole)), (c .before .pre .priced, (c .before .pre .laid, nothing-lost (noteIn (c .before .args .rows .now) .lost) (c .before .args .mem .now))))
 
 foreign-requires : tie.Need-foreign-requires Inv-loop μ-loop
 foreign-requires c κs = ((c .before .before .before .loop .inv .0) .long, c .before .before .before .before .before .pre .bounded .shared-within)
@@ -365,7 +368,7 @@ loop-less-12 : tie.Need-loop-less-12 Inv-loop μ-loop
 loop-less-12 c = omega (arith, c .counted5 .ensures .1)
 
 loop-again-12 : tie.Need-loop-again-12 Inv-loop μ-loop
-loop-again-12 c = (goes (found (c .before .before .before .before .before .before .before .before .before .before .before .before .before .before .before)) (catch-acts (found (c .before .before .before .before .before .before .before .before .before .before .before .before .before .before .before)) (c .before .before .before .before .before .before .before .before .before .before .before .before .before .match3 .keys4) (c .before .before .before .wrapping-add-u32 .ensures)) (told saysChecked (c .before .before .before .before .before .before .before .before .before .before .before .before .can-catch .ensures) (c .before .before .before .before .before .before .before .before .before .before .enum-told9 .given .1)) (held-there (caught-above (c .before .before .before .before .before .before .before .before .before .before .before .before .before .before .before .before .before .before .before .before .before .before .before .before .before .loop .regs .e) (c .before .before .before .before .before .before .before .before .before .before .before .before .before .before .before .before .before .before .before .before .before .before .before .before .before .loop .regs .s) (c .before .before .before .before .before .before .before .before .before .before .before .before .before .before .before .before .before .before .before .before .before .before .before .before .before .loop .regs .p - 1) (c .before .before .before .wrapping-add-u32 .result) (c .before .before .before .before .before .before .called .ensures (c .before .before .before .before .before .before .before .before .before .before .before .before .before .before .before .before .before .before .before .before .before .before .before .before .before .loop .inv .1 .1)) (c .before .before .caught .ensures ((c .before .before .before .before .before .before .called .ensures (c .before .before .before .before .before .before .before .before .before .before .before .before .before .before .before .before .before .before .before .before .before .before .before .before .before .loop .inv .1 .1)) .laid)))) refl (c .before .price5 .ensures .0) (c .counted5 .ensures .0), (c .before .before .before .before .before .before .before .before .before .before .before .before .before .before .before .before .before .before .before .before .before .before .before .before .before .loop .inv .1 .0, (caught-above (c .before .before .before .before .before .before .before .before .before .before .before .before .before .before .before .before .before .before .before .before .before .before .before .before .before .loop .regs .e) (c .before .before .before .before .before .before .before .before .before .before .before .before .before .before .before .before .before .before .before .before .before .before .before .before .before .loop .regs .s) (c .before .before .before .before .before .before .before .before .before .before .before .before .before .before .before .before .before .before .before .before .before .before .before .before .before .loop .regs .p - 1) (c .before .before .before .wrapping-add-u32 .result) (c .before .before .before .before .before .before .called .ensures (c .before .before .before .before .before .before .before .before .before .before .before .before .before .before .before .before .before .before .before .before .before .before .before .before .before .loop .inv .1 .1)) (c .before .before .caught .ensures ((c .before .before .before .before .before .before .called .ensures (c .before .before .before .before .before .before .before .before .before .before .before .before .before .before .before .before .before .before .before .before .before .before .before .before .before .loop .inv .1 .1)) .laid))) .laid))
+loop-again-12 c = (goes (found (c .before .before .before .before .before .before .before .before .before .before .before .before .before .before .before)) (catch-acts (found (c .before .before .before .before .before .before .before .before .before .before .before .before .before .before .before)) (c .before .before .before .before .before .before .before .before .before .before .before .before .before .match3 .keys4) (c .before .before .before .wrapping-add-u32 .ensures)) (told saysChecked (c .before .before .before .before .before .before .before .before .before .before .before .before .can-catch .ensures) (c .before .before .before .before .before .before .before .before .before .before .enum-told9 .given .1)) (held-there (caught-above (c .before .before .before .before .before .before .before .before .before .before .before .before .before .before .before .before .before .before .before .before .before .before .before .before .before .loop .regs .e) (c .before .before .before .before .before .before .before .before .before .before .before .before .before .before .before .before .before .before .before .before .before .before .before .before .before .loop .regs .s) (c .before .before .before .before .before .before .before .before .before .before .before .before .before .before .before .before .before .before .before .before .before .before .before .before .before .loop .regs .p - 1) (c .before .before .before .wrapping-add-u32 .result) (c .before .before .before .before .before .before .called .ensures (c .before .before .before .before .before .before .before .before .before .before .before .before .before .before .before .before .before .before .before .before .before .before .before .before .before .loop .inv .1 .1 .0)) (c .before .before .caught .ensures ((c .before .before .before .before .before .before .called .ensures (c .before .before .before .before .before .before .before .before .before .before .before .before .before .before .before .before .before .before .before .before .before .before .before .before .before .loop .inv .1 .1 .0)) .laid)))) refl (c .before .price5 .ensures .0) (c .counted5 .ensures .0), (c .before .before .before .before .before .before .before .before .before .before .before .before .before .before .before .before .before .before .before .before .before .before .before .before .before .loop .inv .1 .0, ((caught-above (c .before .before .before .before .before .before .before .before .before .before .before .before .before .before .before .before .before .before .before .before .before .before .before .before .before .loop .regs .e) (c .before .before .before .before .before .before .before .before .before .before .before .before .before .before .before .before .before .before .before .before .before .before .before .before .before .loop .regs .s) (c .before .before .before .before .before .before .before .before .before .before .before .before .before .before .before .before .before .before .before .before .before .before .before .before .before .loop .regs .p - 1) (c .before .before .before .wrapping-add-u32 .result) (c .before .before .before .before .before .before .called .ensures (c .before .before .before .before .before .before .before .before .before .before .before .before .before .before .before .before .before .before .before .before .before .before .before .before .before .loop .inv .1 .1 .0)) (c .before .before .caught .ensures ((c .before .before .before .before .before .before .called .ensures (c .before .before .before .before .before .before .before .before .before .before .before .before .before .before .before .before .before .before .before .before .before .before .before .before .before .loop .inv .1 .1 .0)) .laid))) .laid, ap (λ (n : Note). n .lost % 2 ^ 32) ((caught-above (c .before .before .before .before .before .before .before .before .before .before .before .before .before .before .before .before .before .before .before .before .before .before .before .before .before .loop .regs .e) (c .before .before .before .before .before .before .before .before .before .before .before .before .before .before .before .before .before .before .before .before .before .before .before .before .before .loop .regs .s) (c .before .before .before .before .before .before .before .before .before .before .before .before .before .before .before .before .before .before .before .before .before .before .before .before .before .loop .regs .p - 1) (c .before .before .before .wrapping-add-u32 .result) (c .before .before .before .before .before .before .called .ensures (c .before .before .before .before .before .before .before .before .before .before .before .before .before .before .before .before .before .before .before .before .before .before .before .before .before .loop .inv .1 .1 .0)) (c .before .before .caught .ensures ((c .before .before .before .before .before .before .called .ensures (c .before .before .before .before .before .before .before .before .before .before .before .before .before .before .before .before .before .before .before .before .before .before .before .before .before .loop .inv .1 .1 .0)) .laid))) .note-is) ∙ (c .before .before .before .before .before .before .before .before .before .before .before .before .before .before .before .before .before .before .before .before .before .before .before .before .before .loop .inv .1 .1 .1))))
 
 price-requires-6 : tie.Need-price-requires-6 Inv-loop μ-loop
 price-requires-6 c κs = c .before .before .before .before .before .before .before .before .before .before .before .before .loop .inv .1 .0
@@ -455,7 +458,7 @@ loop-less-16 : tie.Need-loop-less-16 Inv-loop μ-loop
 loop-less-16 c = omega (arith, c .counted8 .ensures .1)
 
 loop-again-16 : tie.Need-loop-again-16 Inv-loop μ-loop
-loop-again-16 c = (goes (found (c .before .before .before .before .before .before .before .before .before .before .before .before .before .before .before .before .before .before .before .before .before .before)) (throw-acts (found (c .before .before .before .before .before .before .before .before .before .before .before .before .before .before .before .before .before .before .before .before .before .before)) (c .before .before .before .before .before .before .before .before .before .before .before .before .before .before .before .before .before .before .before .before .match3 .keys6)) (told saysThrown (c .before .before .before .before .before .before .before .before .before .before .before .before .before .before .before .before .before .before .can-throw .ensures) (c .before .before .before .before .before .before .before .before .before .before .before .before .before .before .before .before .thrown .given .1 ∙ ap thrown.Found (c .before .before .before .before .before .before .before .before .before .before .before .before .before .throw .given .1))) (thrown-there (found (c .before .before .before .before .before .before .before .before .before .before .before .before .before .before .before .before .before .before .before .before .before .before)) (c .before .before .before .before .before .before .before .before .before .before .before .before .before .throw .given .0 .0) (c .before .before .before .before .before .before .before .before .copy-of-p .ensures (c .before .before .before .before .before .before .before .before .before .before .before .before .before .before .before .before .before .before .before .before .before .before .before .before .before .before .before .before .before .before .before .before .loop .rows)) (c .before .before .before .before .before .before .before .before .before .before .copy-of-s2 .ensures (c .before .before .before .before .before .before .before .before .before .before .before .before .before .before .before .before .before .before .before .before .before .before .before .before .before .before .before .before .before .before .before .before .loop .rows)) (c .before .before .copy-of-r2 .ensures (c .before .before .before .before .before .before .before .before .before .before .before .before .before .before .before .before .before .before .before .before .before .before .before .before .before .before .before .before .before .before .before .before .loop .rows)) (c .before .before .before .before .before .before .throw-address .ensures (c .before .before .before .before .before .before .before .before .before .before .before .before .before .before .before .before .before .before .before .before .before .before .before .before .before .before .before .before .before .before .before .before .loop .copies)) ∙ held-there (c .before .before .before .before .note .ensures (c .before .before .before .before .before .before .before .before .before .before .before .before .before .before .before .before .before .before .before .before .before .before .before .before .before .before .before .before .before .before .before .before .loop .copies) (c .before .before .before .before .before .before .before .before .before .before .before .before .before .before .before .before .before .before .before .before .before .before .before .before .before .before .before .before .before .before .before .before .loop .inv .1 .1))) refl (c .before .price7 .ensures .0) (c .counted8 .ensures .0), (c .before .before .before .before .before .before .before .before .before .before .before .before .before .before .before .before .before .before .before .before .before .before .before .before .before .before .before .before .before .before .before .before .loop .inv .1 .0, (c .before .before .before .before .note .ensures (c .before .before .before .before .before .before .before .before .before .before .before .before .before .before .before .before .before .before .before .before .before .before .before .before .before .before .before .before .before .before .before .before .loop .copies) (c .before .before .before .before .before .before .before .before .before .before .before .before .before .before .before .before .before .before .before .before .before .before .before .before .before .before .before .before .before .before .before .before .loop .inv .1 .1)) .laid))
+loop-again-16 c = (goes (found (c .before .before .before .before .before .before .before .before .before .before .before .before .before .before .before .before .before .before .before .before .before .before)) (throw-acts (found (c .before .before .before .before .before .before .before .before .before .before .before .before .before .before .before .before .before .before .before .before .before .before)) (c .before .before .before .before .before .before .before .before .before .before .before .before .before .before .before .before .before .before .before .before .match3 .keys6)) (told saysThrown (c .before .before .before .before .before .before .before .before .before .before .before .before .before .before .before .before .before .before .can-throw .ensures) (c .before .before .before .before .before .before .before .before .before .before .before .before .before .before .before .before .thrown .given .1 ∙ ap thrown.Found (c .before .before .before .before .before .before .before .before .before .before .before .before .before .throw .given .1))) (thrown-there (found (c .before .before .before .before .before .before .before .before .before .before .before .before .before .before .before .before .before .before .before .before .before .before)) (c .before .before .before .before .before .before .before .before .before .before .before .before .before .throw .given .0 .0) (c .before .before .before .before .before .before .before .before .copy-of-p .ensures (c .before .before .before .before .before .before .before .before .before .before .before .before .before .before .before .before .before .before .before .before .before .before .before .before .before .before .before .before .before .before .before .before .loop .rows)) (c .before .before .before .before .before .before .before .before .before .before .copy-of-s2 .ensures (c .before .before .before .before .before .before .before .before .before .before .before .before .before .before .before .before .before .before .before .before .before .before .before .before .before .before .before .before .before .before .before .before .loop .rows)) (c .before .before .copy-of-r2 .ensures (c .before .before .before .before .before .before .before .before .before .before .before .before .before .before .before .before .before .before .before .before .before .before .before .before .before .before .before .before .before .before .before .before .loop .rows)) (c .before .before .before .before .before .before .throw-address .ensures (c .before .before .before .before .before .before .before .before .before .before .before .before .before .before .before .before .before .before .before .before .before .before .before .before .before .before .before .before .before .before .before .before .loop .copies)) ∙ held-there (c .before .before .before .before .note .ensures (c .before .before .before .before .before .before .before .before .before .before .before .before .before .before .before .before .before .before .before .before .before .before .before .before .before .before .before .before .before .before .before .before .loop .copies) (c .before .before .before .before .before .before .before .before .before .before .before .before .before .before .before .before .before .before .before .before .before .before .before .before .before .before .before .before .before .before .before .before .loop .inv .1 .1 .0))) refl (c .before .price7 .ensures .0) (c .counted8 .ensures .0), (c .before .before .before .before .before .before .before .before .before .before .before .before .before .before .before .before .before .before .before .before .before .before .before .before .before .before .before .before .before .before .before .before .loop .inv .1 .0, ((c .before .before .before .before .note .ensures (c .before .before .before .before .before .before .before .before .before .before .before .before .before .before .before .before .before .before .before .before .before .before .before .before .before .before .before .before .before .before .before .before .loop .copies) (c .before .before .before .before .before .before .before .before .before .before .before .before .before .before .before .before .before .before .before .before .before .before .before .before .before .before .before .before .before .before .before .before .loop .inv .1 .1 .0)) .laid, ap (λ (n : Note). n .lost % 2 ^ 32) ((c .before .before .before .before .note .ensures (c .before .before .before .before .before .before .before .before .before .before .before .before .before .before .before .before .before .before .before .before .before .before .before .before .before .before .before .before .before .before .before .before .loop .copies) (c .before .before .before .before .before .before .before .before .before .before .before .before .before .before .before .before .before .before .before .before .before .before .before .before .before .before .before .before .before .before .before .before .loop .inv .1 .1 .0)) .note-is) ∙ (c .before .before .before .before .before .before .before .before .before .before .before .before .before .before .before .before .before .before .before .before .before .before .before .before .before .before .before .before .before .before .before .before .loop .inv .1 .1 .1))))
 
 reach-requires : tie.Need-reach-requires Inv-loop μ-loop
 reach-requires c κs = (omega arith, ((c .before .before .before .before .before .before .before .before .before .before .before .before .before .loop .inv .0) .p-within, c .before .before .before .before .before .before .before .before .before .before .before .before .before .before .before .pre .bounded .shared-within))
@@ -479,7 +482,7 @@ enum-known-spot : tie.Need-enum-known-spot Inv-loop μ-loop
 enum-known-spot c = search needs
 
 read-number-requires : tie.Need-read-number-requires Inv-loop μ-loop
-read-number-requires c κs = omega (arith, memory-room (c .before .before .before .before .before .before .before .before .before .before .before .before .before .before .before .before .before .before .before .before .before .before .before .args .reach) (widthOf (c .before .before .before .before .before .before .before .before .before .before .before .before .fetched .given .0 .0)) (c .before .before .before .before .before .before .before .before .before .before .before .before .before .before .before .before .before .before .before .before .before .loop .cells) (told saysReached (c .before .before .before .before .before .before .before .reach .ensures .0) (c .before .before .before .before .before .reached .given .1 ∙ ap reached.At (c .before .before .spot .given .1))), (c .before .before .before .before .before .before .before .before .before .before .before .before .before .before .before .before .before .before .before .before .before .loop .inv .0) .long)
+read-number-requires c κs = (omega (arith, memory-room (c .before .before .before .before .before .before .before .before .before .before .before .before .before .before .before .before .before .before .before .before .before .before .before .args .reach) (widthOf (c .before .before .before .before .before .before .before .before .before .before .before .before .fetched .given .0 .0)) (c .before .before .before .before .before .before .before .before .before .before .before .before .before .before .before .before .before .before .before .before .before .loop .cells) (told saysReached (c .before .before .before .before .before .before .before .reach .ensures .0) (c .before .before .before .before .before .reached .given .1 ∙ ap reached.At (c .before .before .spot .given .1))), (c .before .before .before .before .before .before .before .before .before .before .before .before .before .before .before .before .before .before .before .before .before .loop .inv .0) .long))
 
 sub-cells-3 : tie.Need-sub-cells-3 Inv-loop μ-loop
 sub-cells-3 c = omega (arith, memory-room (c .before .before .before .before .before .before .before .before .before .before .before .before .before .before .before .before .before .before .before .before .before .before .before .before .args .reach) (widthOf (c .before .before .before .before .before .before .before .before .before .before .before .before .before .fetched .given .0 .0)) (c .before .before .before .before .before .before .before .before .before .before .before .before .before .before .before .before .before .before .before .before .before .before .loop .cells) (told saysReached (c .before .before .before .before .before .before .before .before .reach .ensures .0) (c .before .before .before .before .before .before .reached .given .1 ∙ ap reached.At (c .before .before .before .spot .given .1))))
@@ -506,7 +509,7 @@ enum-known-spot-2 : tie.Need-enum-known-spot-2 Inv-loop μ-loop
 enum-known-spot-2 c = search needs
 
 read-number-requires-2 : tie.Need-read-number-requires-2 Inv-loop μ-loop
-read-number-requires-2 c κs = omega (arith, memory-room (c .before .before .before .before .before .before .before .before .before .before .before .before .before .before .before .before .before .before .before .before .before .before .before .args .reach) (widthOf (c .before .before .before .before .before .before .before .before .before .before .before .before .fetched .given .0 .0)) (c .before .before .before .before .before .before .before .before .before .before .before .before .before .before .before .before .before .before .before .before .before .loop .cells) (told saysReached (c .before .before .before .before .before .before .before .reach .ensures .0) (c .before .before .before .before .before .reached .given .1 ∙ ap reached.At (c .before .before .spot2 .given .1))), (c .before .before .before .before .before .before .before .before .before .before .before .before .before .before .before .before .before .before .before .before .before .loop .inv .0) .long)
+read-number-requires-2 c κs = (omega (arith, memory-room (c .before .before .before .before .before .before .before .before .before .before .before .before .before .before .before .before .before .before .before .before .before .before .before .args .reach) (widthOf (c .before .before .before .before .before .before .before .before .before .before .before .before .fetched .given .0 .0)) (c .before .before .before .before .before .before .before .before .before .before .before .before .before .before .before .before .before .before .before .before .before .loop .cells) (told saysReached (c .before .before .before .before .before .before .before .reach .ensures .0) (c .before .before .before .before .before .reached .given .1 ∙ ap reached.At (c .before .before .spot2 .given .1))), (c .before .before .before .before .before .before .before .before .before .before .before .before .before .before .before .before .before .before .before .before .before .loop .inv .0) .long))
 
 sub-cells-4 : tie.Need-sub-cells-4 Inv-loop μ-loop
 sub-cells-4 c = omega (arith, memory-room (c .before .before .before .before .before .before .before .before .before .before .before .before .before .before .before .before .before .before .before .before .before .before .before .before .args .reach) (widthOf (c .before .before .before .before .before .before .before .before .before .before .before .before .before .fetched .given .0 .0)) (c .before .before .before .before .before .before .before .before .before .before .before .before .before .before .before .before .before .before .before .before .before .before .loop .cells) (told saysReached (c .before .before .before .before .before .before .before .before .reach .ensures .0) (c .before .before .before .before .before .before .reached .given .1 ∙ ap reached.At (c .before .before .before .spot2 .given .1))))
@@ -554,7 +557,7 @@ loop-less-20 : tie.Need-loop-less-20 Inv-loop μ-loop
 loop-less-20 c = omega (arith, c .counted11 .ensures .1)
 
 loop-again-20 : tie.Need-loop-again-20 Inv-loop μ-loop
-loop-again-20 c = (goes (found (c .before .before .before .before .before .before .before .before .before .before .before .before .before .before)) (fetch-acts (found (c .before .before .before .before .before .before .before .before .before .before .before .before .before .before)) (c .before .before .before .before .before .before .before .before .before .before .before .before .match3 .keys7)) (told saysReached (c .before .before .before .before .before .before .before .before .before .before .reach .ensures .0) (c .before .before .before .before .before .before .before .before .reached .given .1 ∙ ap reached.At (c .before .before .before .before .before .spot3 .given .1))) (fetched-whole (found (c .before .before .before .before .before .before .before .before .before .before .before .before .before .before)) (widthOf (c .before .before .before .before .before .before .before .before .before .before .before .before .before .before .before .fetched .given .0 .0)) (4 * c .before .before .before .before .before .spot3 .given .0 .0) ((spot-within (c .before .before .before .before .before .before .before .before .before .before .before .before .before .before .before .before .before .before .before .before .before .before .before .before .before .before .args .reach) (widthOf (c .before .before .before .before .before .before .before .before .before .before .before .before .before .before .before .fetched .given .0 .0)) (c .before .before .before .before .before .before .before .before .before .before .reach .ensures .1) (c .before .before .before .before .before .before .before .before .reached .given .1 ∙ ap reached.At (c .before .before .before .before .before .spot3 .given .1))) .0) (c .before .before .local .ensures (c .before .before .before .before .before .before .before .before .before .before .before .before .before .before .before .before .before .before .before .before .before .before .before .before .loop .copies) (c .before .before .before .before .before .before .before .before .before .before .before .before .before .before .before .before .before .before .before .before .before .before .before .before .loop .regs .e) (omega (arith, (c .before .before .before .before .before .before .before .before .before .before .before .before .before .before .before .before .before .before .before .before .before .before .before .before .loop .inv .0) .e-within)) (c .before .before .before .before .before .before .before .before .before .before .before .before .before .before .before .before .before .before .before .before .before .before .before .before .loop .inv .1 .1))) refl (c .before .price10 .ensures .0 ∙ ap cyclesOf (sym (long-fetch (c .before .before .before .before .before .before .before .before .before .before .before .before .before .before .before .fetched .given .0 .0) (c .before .before .before .before .before .before .before .before .before .before .before .before .match3 .keys7) ((spot-within (c .before .before .before .before .before .before .before .before .before .before .before .before .before .before .before .before .before .before .before .before .before .before .before .before .before .before .args .reach) (widthOf (c .before .before .before .before .before .before .before .before .before .before .before .before .before .before .before .fetched .given .0 .0)) (c .before .before .before .before .before .before .before .before .before .before .reach .ensures .1) (c .before .before .before .before .before .before .before .before .reached .given .1 ∙ ap reached.At (c .before .before .before .before .before .spot3 .given .1))) .0)))) (c .counted11 .ensures .0), (c .before .before .before .before .before .before .before .before .before .before .before .before .before .before .before .before .before .before .before .before .before .before .before .before .loop .inv .1))
+loop-again-20 c = (goes (found (c .before .before .before .before .before .before .before .before .before .before .before .before .before .before)) (fetch-acts (found (c .before .before .before .before .before .before .before .before .before .before .before .before .before .before)) (c .before .before .before .before .before .before .before .before .before .before .before .before .match3 .keys7)) (told saysReached (c .before .before .before .before .before .before .before .before .before .before .reach .ensures .0) (c .before .before .before .before .before .before .before .before .reached .given .1 ∙ ap reached.At (c .before .before .before .before .before .spot3 .given .1))) (fetched-whole (found (c .before .before .before .before .before .before .before .before .before .before .before .before .before .before)) (widthOf (c .before .before .before .before .before .before .before .before .before .before .before .before .before .before .before .fetched .given .0 .0)) (4 * c .before .before .before .before .before .spot3 .given .0 .0) ((spot-within (c .before .before .before .before .before .before .before .before .before .before .before .before .before .before .before .before .before .before .before .before .before .before .before .before .before .before .args .reach) (widthOf (c .before .before .before .before .before .before .before .before .before .before .before .before .before .before .before .fetched .given .0 .0)) (c .before .before .before .before .before .before .before .before .before .before .reach .ensures .1) (c .before .before .before .before .before .before .before .before .reached .given .1 ∙ ap reached.At (c .before .before .before .before .before .spot3 .given .1))) .0) (c .before .before .local .ensures (c .before .before .before .before .before .before .before .before .before .before .before .before .before .before .before .before .before .before .before .before .before .before .before .before .loop .copies) (c .before .before .before .before .before .before .before .before .before .before .before .before .before .before .before .before .before .before .before .before .before .before .before .before .loop .regs .e) (omega (arith, (c .before .before .before .before .before .before .before .before .before .before .before .before .before .before .before .before .before .before .before .before .before .before .before .before .loop .inv .0) .e-within)) (c .before .before .before .before .before .before .before .before .before .before .before .before .before .before .before .before .before .before .before .before .before .before .before .before .loop .inv .1 .1 .0))) refl (c .before .price10 .ensures .0 ∙ ap cyclesOf (sym (long-fetch (c .before .before .before .before .before .before .before .before .before .before .before .before .before .before .before .fetched .given .0 .0) (c .before .before .before .before .before .before .before .before .before .before .before .before .match3 .keys7) ((spot-within (c .before .before .before .before .before .before .before .before .before .before .before .before .before .before .before .before .before .before .before .before .before .before .before .before .before .before .args .reach) (widthOf (c .before .before .before .before .before .before .before .before .before .before .before .before .before .before .before .fetched .given .0 .0)) (c .before .before .before .before .before .before .before .before .before .before .reach .ensures .1) (c .before .before .before .before .before .before .before .before .reached .given .1 ∙ ap reached.At (c .before .before .before .before .before .spot3 .given .1))) .0)))) (c .counted11 .ensures .0), (c .before .before .before .before .before .before .before .before .before .before .before .before .before .before .before .before .before .before .before .before .before .before .before .before .loop .inv .1))
 
 enum-known-spot-4 : tie.Need-enum-known-spot-4 Inv-loop μ-loop
 enum-known-spot-4 c = search needs
@@ -581,7 +584,7 @@ loop-less-21 : tie.Need-loop-less-21 Inv-loop μ-loop
 loop-less-21 c = omega (arith, c .counted12 .ensures .1)
 
 loop-again-21 : tie.Need-loop-again-21 Inv-loop μ-loop
-loop-again-21 c = (goes (found (c .before .before .before .before .before .before .before .before .before .before .before .before .before .before)) (fetch-acts (found (c .before .before .before .before .before .before .before .before .before .before .before .before .before .before)) (c .before .before .before .before .before .before .before .before .before .before .before .before .match3 .keys7)) (told saysReached (c .before .before .before .before .before .before .before .before .before .before .reach .ensures .0) (c .before .before .before .before .before .before .before .before .reached .given .1 ∙ ap reached.At (c .before .before .before .before .before .spot4 .given .1))) (fetched-whole (found (c .before .before .before .before .before .before .before .before .before .before .before .before .before .before)) (widthOf (c .before .before .before .before .before .before .before .before .before .before .before .before .before .before .before .fetched .given .0 .0)) (4 * (localsCount + c .before .before .before .before .before .spot4 .given .0 .0)) ((spot-within (c .before .before .before .before .before .before .before .before .before .before .before .before .before .before .before .before .before .before .before .before .before .before .before .before .before .before .args .reach) (widthOf (c .before .before .before .before .before .before .before .before .before .before .before .before .before .before .before .fetched .given .0 .0)) (c .before .before .before .before .before .before .before .before .before .before .reach .ensures .1) (c .before .before .before .before .before .before .before .before .reached .given .1 ∙ ap reached.At (c .before .before .before .before .before .spot4 .given .1))) .0) (c .before .before .cell .ensures (c .before .before .before .before .before .before .before .before .before .before .before .before .before .before .before .before .before .before .before .before .before .before .before .before .loop .copies) (c .before .before .before .before .before .before .before .before .before .before .before .before .before .before .before .before .before .before .before .before .before .before .before .before .loop .regs .s) (omega (arith, (c .before .before .before .before .before .before .before .before .before .before .before .before .before .before .before .before .before .before .before .before .before .before .before .before .loop .inv .0) .s-within)) (c .before .before .before .before .before .before .before .before .before .before .before .before .before .before .before .before .before .before .before .before .before .before .before .before .loop .inv .1 .1))) refl (c .before .price11 .ensures .0 ∙ ap cyclesOf (sym (long-fetch (c .before .before .before .before .before .before .before .before .before .before .before .before .before .before .before .fetched .given .0 .0) (c .before .before .before .before .before .before .before .before .before .before .before .before .match3 .keys7) ((spot-within (c .before .before .before .before .before .before .before .before .before .before .before .before .before .before .before .before .before .before .before .before .before .before .before .before .before .before .args .reach) (widthOf (c .before .before .before .before .before .before .before .before .before .before .before .before .before .before .before .fetched .given .0 .0)) (c .before .before .before .before .before .before .before .before .before .before .reach .ensures .1) (c .before .before .before .before .before .before .before .before .reached .given .1 ∙ ap reached.At (c .before .before .before .before .before .spot4 .given .1))) .0)))) (c .counted12 .ensures .0), (c .before .before .before .before .before .before .before .before .before .before .before .before .before .before .before .before .before .before .before .before .before .before .before .before .loop .inv .1))
+loop-again-21 c = (goes (found (c .before .before .before .before .before .before .before .before .before .before .before .before .before .before)) (fetch-acts (found (c .before .before .before .before .before .before .before .before .before .before .before .before .before .before)) (c .before .before .before .before .before .before .before .before .before .before .before .before .match3 .keys7)) (told saysReached (c .before .before .before .before .before .before .before .before .before .before .reach .ensures .0) (c .before .before .before .before .before .before .before .before .reached .given .1 ∙ ap reached.At (c .before .before .before .before .before .spot4 .given .1))) (fetched-whole (found (c .before .before .before .before .before .before .before .before .before .before .before .before .before .before)) (widthOf (c .before .before .before .before .before .before .before .before .before .before .before .before .before .before .before .fetched .given .0 .0)) (4 * (localsCount + c .before .before .before .before .before .spot4 .given .0 .0)) ((spot-within (c .before .before .before .before .before .before .before .before .before .before .before .before .before .before .before .before .before .before .before .before .before .before .before .before .before .before .args .reach) (widthOf (c .before .before .before .before .before .before .before .before .before .before .before .before .before .before .before .fetched .given .0 .0)) (c .before .before .before .before .before .before .before .before .before .before .reach .ensures .1) (c .before .before .before .before .before .before .before .before .reached .given .1 ∙ ap reached.At (c .before .before .before .before .before .spot4 .given .1))) .0) (c .before .before .cell .ensures (c .before .before .before .before .before .before .before .before .before .before .before .before .before .before .before .before .before .before .before .before .before .before .before .before .loop .copies) (c .before .before .before .before .before .before .before .before .before .before .before .before .before .before .before .before .before .before .before .before .before .before .before .before .loop .regs .s) (omega (arith, (c .before .before .before .before .before .before .before .before .before .before .before .before .before .before .before .before .before .before .before .before .before .before .before .before .loop .inv .0) .s-within)) (c .before .before .before .before .before .before .before .before .before .before .before .before .before .before .before .before .before .before .before .before .before .before .before .before .loop .inv .1 .1 .0))) refl (c .before .price11 .ensures .0 ∙ ap cyclesOf (sym (long-fetch (c .before .before .before .before .before .before .before .before .before .before .before .before .before .before .before .fetched .given .0 .0) (c .before .before .before .before .before .before .before .before .before .before .before .before .match3 .keys7) ((spot-within (c .before .before .before .before .before .before .before .before .before .before .before .before .before .before .before .before .before .before .before .before .before .before .before .before .before .before .args .reach) (widthOf (c .before .before .before .before .before .before .before .before .before .before .before .before .before .before .before .fetched .given .0 .0)) (c .before .before .before .before .before .before .before .before .before .before .reach .ensures .1) (c .before .before .before .before .before .before .before .before .reached .given .1 ∙ ap reached.At (c .before .before .before .before .before .spot4 .given .1))) .0)))) (c .counted12 .ensures .0), (c .before .before .before .before .before .before .before .before .before .before .before .before .before .before .before .before .before .before .before .before .before .before .before .before .loop .inv .1))
 
 enum-known-spot-5 : tie.Need-enum-known-spot-5 Inv-loop μ-loop
 enum-known-spot-5 c = search needs
@@ -608,7 +611,7 @@ loop-less-22 : tie.Need-loop-less-22 Inv-loop μ-loop
 loop-less-22 c = omega (arith, c .counted13 .ensures .1)
 
 loop-again-22 : tie.Need-loop-again-22 Inv-loop μ-loop
-loop-again-22 c = (goes (found (c .before .before .before .before .before .before .before .before .before .before .before .before .before .before)) (fetch-acts (found (c .before .before .before .before .before .before .before .before .before .before .before .before .before .before)) (c .before .before .before .before .before .before .before .before .before .before .before .before .match3 .keys7)) (told saysReached (c .before .before .before .before .before .before .before .before .before .before .reach .ensures .0) (c .before .before .before .before .before .before .before .before .reached .given .1 ∙ ap reached.At (c .before .before .before .before .before .spot5 .given .1))) (ap (fetchedAs (found (c .before .before .before .before .before .before .before .before .before .before .before .before .before .before))) (sym (c .before .before .read-in-view .ensures (c .before .before .before .before .before .before .before .before .before .before .before .before .before .before .before .before .before .before .before .before .before .before .before .before .loop .copies) (c .before .before .before .before .before .before .before .before .before .before .before .before .before .before .before .before .before .before .before .before .before .before .before .before .loop .inv .1 .1)))) refl (c .before .price12 .ensures .0) (c .counted13 .ensures .0), (c .before .before .before .before .before .before .before .before .before .before .before .before .before .before .before .before .before .before .before .before .before .before .before .before .loop .inv .1))
+loop-again-22 c = (goes (found (c .before .before .before .before .before .before .before .before .before .before .before .before .before .before)) (fetch-acts (found (c .before .before .before .before .before .before .before .before .before .before .before .before .before .before)) (c .before .before .before .before .before .before .before .before .before .before .before .before .match3 .keys7)) (told saysReached (c .before .before .before .before .before .before .before .before .before .before .reach .ensures .0) (c .before .before .before .before .before .before .before .before .reached .given .1 ∙ ap reached.At (c .before .before .before .before .before .spot5 .given .1))) (ap (fetchedAs (found (c .before .before .before .before .before .before .before .before .before .before .before .before .before .before))) (sym (c .before .before .read-in-view .ensures (c .before .before .before .before .before .before .before .before .before .before .before .before .before .before .before .before .before .before .before .before .before .before .before .before .loop .copies) (c .before .before .before .before .before .before .before .before .before .before .before .before .before .before .before .before .before .before .before .before .before .before .before .before .loop .inv .1 .1 .0)))) refl (c .before .price12 .ensures .0) (c .counted13 .ensures .0), (c .before .before .before .before .before .before .before .before .before .before .before .before .before .before .before .before .before .before .before .before .before .before .before .before .loop .inv .1))
 
 reach-requires-2 : tie.Need-reach-requires-2 Inv-loop μ-loop
 reach-requires-2 c κs = (omega arith, ((c .before .before .before .before .before .before .before .before .before .before .before .before .before .loop .inv .0) .p-within, c .before .before .before .before .before .before .before .before .before .before .before .before .before .before .before .pre .bounded .shared-within))
@@ -626,67 +629,73 @@ loop-less-23 : tie.Need-loop-less-23 Inv-loop μ-loop
 loop-less-23 c = halted-less (c .before .before .before .before .before .before .before .before .before .before .before .before .before .before .before .before .before .loop .regs) (c .by-reach2 .ensures) (ap saysReached (c .before .enum-told14 .given .1)) ((found (c .before .before .before .before .before .before .before)) .less)
 
 loop-again-23 : tie.Need-loop-again-23 Inv-loop μ-loop
-loop-again-23 c = (ends (found (c .before .before .before .before .before .before .before)) (store-acts (found (c .before .before .before .before .before .before .before)) (c .before .before .before .before .before .match3 .keys8)) (told saysReached (c .before .before .before .reach2 .ensures .0) (c .before .enum-told14 .given .1)) (c .before .before .before .reach2 .ensures .0) (c .by-reach2 .ensures), (c .before .before .before .before .before .before .before .before .before .before .before .before .before .before .before .before .before .loop .inv .1))
+loop-again-23 c = (ends (found (c .before .before .before .before .before .before .before)) (store-acts (found (c .before .before .before .before .before .before .before)) (inl (c .before .before .before .before .before .match3 .keys8))) (told saysReached (c .before .before .before .reach2 .ensures .0) (c .before .enum-told14 .given .1)) (c .before .before .before .reach2 .ensures .0) (c .by-reach2 .ensures), (c .before .before .before .before .before .before .before .before .before .before .before .before .before .before .before .before .before .loop .inv .1))
 
 enum-known-spot-6 : tie.Need-enum-known-spot-6 Inv-loop μ-loop
 enum-known-spot-6 c = search needs
 
-sub-write-number : tie.Need-sub-write-number Inv-loop μ-loop
-sub-write-number c = omega (arith, memory-room (c .before .before .before .before .before .before .before .before .before .before .before .before .before .before .before .before .before .before .before .before .before .before .before .args .reach) (widthOf (c .before .before .before .before .before .before .before .before .before .before .before .before .fetched .given .0 .0)) (c .before .before .before .before .before .before .before .before .before .before .before .before .before .before .before .before .before .before .before .before .before .loop .cells) (told saysReached (c .before .before .before .before .before .before .before .reach2 .ensures .0) (c .before .before .before .before .before .reached2 .given .1 ∙ ap reached.At (c .before .before .spot6 .given .1))))
+sub-store-number : tie.Need-sub-store-number Inv-loop μ-loop
+sub-store-number c = omega (arith, memory-room (c .before .before .before .before .before .before .before .before .before .before .before .before .before .before .before .before .before .before .before .before .before .before .before .args .reach) (widthOf (c .before .before .before .before .before .before .before .before .before .before .before .before .fetched .given .0 .0)) (c .before .before .before .before .before .before .before .before .before .before .before .before .before .before .before .before .before .before .before .before .before .loop .cells) (told saysReached (c .before .before .before .before .before .before .before .reach2 .ensures .0) (c .before .before .before .before .before .reached2 .given .1 ∙ ap reached.At (c .before .before .spot6 .given .1))))
 
-mul-write-number : tie.Need-mul-write-number Inv-loop μ-loop
-mul-write-number c = omega (arith, memory-room (c .before .before .before .before .before .before .before .before .before .before .before .before .before .before .before .before .before .before .before .before .before .before .before .args .reach) (widthOf (c .before .before .before .before .before .before .before .before .before .before .before .before .fetched .given .0 .0)) (c .before .before .before .before .before .before .before .before .before .before .before .before .before .before .before .before .before .before .before .before .before .loop .cells) (told saysReached (c .before .before .before .before .before .before .before .reach2 .ensures .0) (c .before .before .before .before .before .reached2 .given .1 ∙ ap reached.At (c .before .before .spot6 .given .1))))
+mul-store-number : tie.Need-mul-store-number Inv-loop μ-loop
+mul-store-number c = omega (arith, memory-room (c .before .before .before .before .before .before .before .before .before .before .before .before .before .before .before .before .before .before .before .before .before .before .before .args .reach) (widthOf (c .before .before .before .before .before .before .before .before .before .before .before .before .fetched .given .0 .0)) (c .before .before .before .before .before .before .before .before .before .before .before .before .before .before .before .before .before .before .before .before .before .loop .cells) (told saysReached (c .before .before .before .before .before .before .before .reach2 .ensures .0) (c .before .before .before .before .before .reached2 .given .1 ∙ ap reached.At (c .before .before .spot6 .given .1))))
 
-element-copy-out-write-number : tie.Need-element-copy-out-write-number Inv-loop μ-loop
-element-copy-out-write-number c = omega (arith, memory-room (c .before .before .before .before .before .before .before .before .before .before .before .before .before .before .before .before .before .before .before .before .before .before .before .args .reach) (widthOf (c .before .before .before .before .before .before .before .before .before .before .before .before .fetched .given .0 .0)) (c .before .before .before .before .before .before .before .before .before .before .before .before .before .before .before .before .before .before .before .before .before .loop .cells) (told saysReached (c .before .before .before .before .before .before .before .reach2 .ensures .0) (c .before .before .before .before .before .reached2 .given .1 ∙ ap reached.At (c .before .before .spot6 .given .1))))
+element-copy-out-store-number : tie.Need-element-copy-out-store-number Inv-loop μ-loop
+element-copy-out-store-number c = omega (arith, memory-room (c .before .before .before .before .before .before .before .before .before .before .before .before .before .before .before .before .before .before .before .before .before .before .before .args .reach) (widthOf (c .before .before .before .before .before .before .before .before .before .before .before .before .fetched .given .0 .0)) (c .before .before .before .before .before .before .before .before .before .before .before .before .before .before .before .before .before .before .before .before .before .loop .cells) (told saysReached (c .before .before .before .before .before .before .before .reach2 .ensures .0) (c .before .before .before .before .before .reached2 .given .1 ∙ ap reached.At (c .before .before .spot6 .given .1))))
 
-write-number-requires : tie.Need-write-number-requires Inv-loop μ-loop
-write-number-requires c κs = omega (arith, memory-room (c .before .before .before .before .before .before .before .before .before .before .before .before .before .before .before .before .before .before .before .before .before .before .before .before .args .reach) (widthOf (c .before .before .before .before .before .before .before .before .before .before .before .before .before .fetched .given .0 .0)) (c .before .before .before .before .before .before .before .before .before .before .before .before .before .before .before .before .before .before .before .before .before .before .loop .cells) (told saysReached (c .before .before .before .before .before .before .before .before .reach2 .ensures .0) (c .before .before .before .before .before .before .reached2 .given .1 ∙ ap reached.At (c .before .before .before .spot6 .given .1))), (c .before .before .before .before .before .before .before .before .before .before .before .before .before .before .before .before .before .before .before .before .before .before .loop .inv .0) .long)
+store-number-requires : tie.Need-store-number-requires Inv-loop μ-loop
+store-number-requires c κs = (inl (c .before .before .before .before .before .before .before .before .before .before .match3 .keys8), (omega (arith, memory-room (c .before .before .before .before .before .before .before .before .before .before .before .before .before .before .before .before .before .before .before .before .before .before .before .before .args .reach) (widthOf (c .before .before .before .before .before .before .before .before .before .before .before .before .before .fetched .given .0 .0)) (c .before .before .before .before .before .before .before .before .before .before .before .before .before .before .before .before .before .before .before .before .before .before .loop .cells) (told saysReached (c .before .before .before .before .before .before .before .before .reach2 .ensures .0) (c .before .before .before .before .before .before .reached2 .given .1 ∙ ap reached.At (c .before .before .before .spot6 .given .1))), (c .before .before .before .before .before .before .before .before .before .before .before .before .before .before .before .before .before .before .before .before .before .before .loop .inv .0) .long)))
+
+lose-requires : tie.Need-lose-requires Inv-loop μ-loop
+lose-requires c κs = search needs
 
 sub-regs-6 : tie.Need-sub-regs-6 Inv-loop μ-loop
-sub-regs-6 c = omega (arith, memory-room (c .before .before .before .before .before .before .before .before .before .before .before .before .before .before .before .before .before .before .before .before .before .before .before .before .before .before .before .args .reach) (widthOf (c .before .before .before .before .before .before .before .before .before .before .before .before .before .before .before .before .fetched .given .0 .0)) (c .before .before .before .before .before .before .before .before .before .before .before .before .before .before .before .before .before .before .before .before .before .before .before .before .before .loop .cells) (told saysReached (c .before .before .before .before .before .before .before .before .before .before .before .reach2 .ensures .0) (c .before .before .before .before .before .before .before .before .before .reached2 .given .1 ∙ ap reached.At (c .before .before .before .before .before .before .spot6 .given .1))))
+sub-regs-6 c = omega (arith, memory-room (c .before .before .before .before .before .before .before .before .before .before .before .before .before .before .before .before .before .before .before .before .before .before .before .before .before .before .before .before .before .args .reach) (widthOf (c .before .before .before .before .before .before .before .before .before .before .before .before .before .before .before .before .before .before .fetched .given .0 .0)) (c .before .before .before .before .before .before .before .before .before .before .before .before .before .before .before .before .before .before .before .before .before .before .before .before .before .before .before .loop .cells) (told saysReached (c .before .before .before .before .before .before .before .before .before .before .before .before .before .reach2 .ensures .0) (c .before .before .before .before .before .before .before .before .before .before .before .reached2 .given .1 ∙ ap reached.At (c .before .before .before .before .before .before .before .before .spot6 .given .1))))
 
 price-requires-13 : tie.Need-price-requires-13 Inv-loop μ-loop
-price-requires-13 c κs = c .before .before .before .before .before .before .before .before .before .before .before .before .before .before .before .before .before .before .before .before .before .before .before .before .before .loop .inv .1 .0
+price-requires-13 c κs = c .before .before .before .before .before .before .before .before .before .before .before .before .before .before .before .before .before .before .before .before .before .before .before .before .before .before .before .loop .inv .1 .0
 
 counted-requires-14 : tie.Need-counted-requires-14 Inv-loop μ-loop
-counted-requires-14 c κs = ((found (c .before .before .before .before .before .before .before .before .before .before .before .before .before .before .before .before)) .less, ((omega (arith, (c .before .before .before .before .before .before .before .before .before .before .before .before .before .before .before .before .before .before .before .before .before .before .before .before .before .before .loop .inv .0) .priced, (c .before .before .before .before .before .before .before .before .before .before .before .before .before .before .before .before .before .before .before .before .before .before .before .before .before .before .loop .inv .0) .limit, (c .before .before .before .before .before .before .before .before .before .before .before .before .before .before .before .before .before .before .before .before .before .before .before .before .before .before .loop .inv .0) .left-within, (found (c .before .before .before .before .before .before .before .before .before .before .before .before .before .before .before .before)) .less)), c .price13 .ensures .1))
+counted-requires-14 c κs = ((found (c .before .before .before .before .before .before .before .before .before .before .before .before .before .before .before .before .before .before)) .less, ((omega (arith, (c .before .before .before .before .before .before .before .before .before .before .before .before .before .before .before .before .before .before .before .before .before .before .before .before .before .before .before .before .loop .inv .0) .priced, (c .before .before .before .before .before .before .before .before .before .before .before .before .before .before .before .before .before .before .before .before .before .before .before .before .before .before .before .before .loop .inv .0) .limit, (c .before .before .before .before .before .before .before .before .before .before .before .before .before .before .before .before .before .before .before .before .before .before .before .before .before .before .before .before .loop .inv .0) .left-within, (found (c .before .before .before .before .before .before .before .before .before .before .before .before .before .before .before .before .before .before)) .less)), c .price13 .ensures .1))
 
 loop-less-24 : tie.Need-loop-less-24 Inv-loop μ-loop
 loop-less-24 c = omega (arith, c .counted14 .ensures .1)
 
 loop-again-24 : tie.Need-loop-again-24 Inv-loop μ-loop
-loop-again-24 c = (goes (found (c .before .before .before .before .before .before .before .before .before .before .before .before .before .before .before .before .before)) (store-acts (found (c .before .before .before .before .before .before .before .before .before .before .before .before .before .before .before .before .before)) (c .before .before .before .before .before .before .before .before .before .before .before .before .before .before .before .match3 .keys8)) (told saysReached (c .before .before .before .before .before .before .before .before .before .before .before .before .before .reach2 .ensures .0) (c .before .before .before .before .before .before .before .before .before .before .before .reached2 .given .1 ∙ ap reached.At (c .before .before .before .before .before .before .before .before .spot6 .given .1))) (written-there (found (c .before .before .before .before .before .before .before .before .before .before .before .before .before .before .before .before .before)) (widthOf (c .before .before .before .before .before .before .before .before .before .before .before .before .before .before .before .before .before .before .fetched .given .0 .0)) (c .before .before .before .before .before .before .before .before .spot6 .given .0 .0) (c .before .before .before .before .write-number .ensures)) refl (c .before .price13 .ensures .0) (c .counted14 .ensures .0), (c .before .before .before .before .before .before .before .before .before .before .before .before .before .before .before .before .before .before .before .before .before .before .before .before .before .before .before .loop .inv .1))
+loop-again-24 c = (goes (found (c .before .before .before .before .before .before .before .before .before .before .before .before .before .before .before .before .before .before .before)) (store-acts (found (c .before .before .before .before .before .before .before .before .before .before .before .before .before .before .before .before .before .before .before)) (inl (c .before .before .before .before .before .before .before .before .before .before .before .before .before .before .before .before .before .match3 .keys8))) (told saysReached (c .before .before .before .before .before .before .before .before .before .before .before .before .before .before .before .reach2 .ensures .0) (c .before .before .before .before .before .before .before .before .before .before .before .before .before .reached2 .given .1 ∙ ap reached.At (c .before .before .before .before .before .before .before .before .before .before .spot6 .given .1))) (written-there (found (c .before .before .before .before .before .before .before .before .before .before .before .before .before .before .before .before .before .before .before)) (widthOf (c .before .before .before .before .before .before .before .before .before .before .before .before .before .before .before .before .before .before .before .before .fetched .given .0 .0)) (c .before .before .before .before .before .before .before .before .before .before .spot6 .given .0 .0) (c .before .before .before .before .before .before .store-number .ensures .written) ∙ held-there (c .before .before .lose .ensures (c .before .before .before .before .before .before .before .before .before .before .before .before .before .before .before .before .before .before .before .before .before .before .before .before .before .before .before .before .before .loop .copies) (c .before .before .before .before .before .before .before .before .before .before .before .before .before .before .before .before .before .before .before .before .before .before .before .before .before .before .before .before .before .loop .inv .1 .1 .0))) refl (c .before .price13 .ensures .0) (c .counted14 .ensures .0), (c .before .before .before .before .before .before .before .before .before .before .before .before .before .before .before .before .before .before .before .before .before .before .before .before .before .before .before .before .before .loop .inv .1 .0, ((c .before .before .lose .ensures (c .before .before .before .before .before .before .before .before .before .before .before .before .before .before .before .before .before .before .before .before .before .before .before .before .before .before .before .before .before .loop .copies) (c .before .before .before .before .before .before .before .before .before .before .before .before .before .before .before .before .before .before .before .before .before .before .before .before .before .before .before .before .before .loop .inv .1 .1 .0)) .laid, (stored-loses (size (widthOf (c .before .before .before .before .before .before .before .before .before .before .before .before .before .before .before .before .before .before .before .before .fetched .given .0 .0))) (getD (c .before .before .before .before .before .before .before .before .before .before .before .before .before .before .before .before .before .before .before .before .before .before .before .before .before .before .before .before .before .loop .cells) (c .before .before .before .before .before .before .before .before .before .before .before .before .before .before .before .before .before .before .before .before .before .before .before .before .before .before .before .before .before .loop .regs .p - 2) 0) (noteIn (c .before .before .before .before .before .before .before .before .before .before .before .before .before .before .before .before .before .before .before .before .before .before .before .before .before .before .before .before .before .before .before .args .rows .now) .lost) (c .before .before .before .before .before .before .before .before .before .before .before .before .before .before .before .before .before .before .before .before .before .before .before .before .before .before .before .before .before .before .before .args .mem .now) (c .before .before .before .before .before .before .before .before .before .before .before .before .before .before .before .before .before .before .before .before .before .before .before .before .before .before .before .before .before .loop .mem) (c .before .before .before .before .before .before .store-number .last .0) (c .before .before .before .before .before .before .before .before .before .before .spot6 .given .0 .0) (noteIn (c .before .before .before .before .before .before .before .before .before .before .before .before .before .before .before .before .before .before .before .before .before .before .before .before .before .before .before .before .before .loop .rows) .lost) (c .before .before .before .before .before .before .store-number .result) (size-few (widthOf (c .before .before .before .before .before .before .before .before .before .before .before .before .before .before .before .before .before .before .before .before .fetched .given .0 .0))) (omega (arith, memory-room (c .before .before .before .before .before .before .before .before .before .before .before .before .before .before .before .before .before .before .before .before .before .before .before .before .before .before .before .before .before .before .before .args .reach) (widthOf (c .before .before .before .before .before .before .before .before .before .before .before .before .before .before .before .before .before .before .before .before .fetched .given .0 .0)) (c .before .before .before .before .before .before .before .before .before .before .before .before .before .before .before .before .before .before .before .before .before .before .before .before .before .before .before .before .before .loop .cells) (told saysReached (c .before .before .before .before .before .before .before .before .before .before .before .before .before .before .before .reach2 .ensures .0) (c .before .before .before .before .before .before .before .before .before .before .before .before .before .reached2 .given .1 ∙ ap reached.At (c .before .before .before .before .before .before .before .before .before .before .spot6 .given .1))), (c .before .before .before .before .before .before .before .before .before .before .before .before .before .before .before .before .before .before .before .before .before .before .before .before .before .before .before .before .before .loop .inv .0) .long)) (c .before .before .before .before .before .before .store-number .ensures) (c .before .before .before .before .before .before .before .before .before .before .before .before .before .before .before .before .before .before .before .before .before .before .before .before .before .before .before .before .before .loop .inv .1 .1 .1) (ap (λ (n : Note). n .lost) ((c .before .before .lose .ensures (c .before .before .before .before .before .before .before .before .before .before .before .before .before .before .before .before .before .before .before .before .before .before .before .before .before .before .before .before .before .loop .copies) (c .before .before .before .before .before .before .before .before .before .before .before .before .before .before .before .before .before .before .before .before .before .before .before .before .before .before .before .before .before .loop .inv .1 .1 .0)) .note-is))))))
 
 enum-known-spot-7 : tie.Need-enum-known-spot-7 Inv-loop μ-loop
 enum-known-spot-7 c = search needs
 
-sub-write-own : tie.Need-sub-write-own Inv-loop μ-loop
-sub-write-own c = omega (arith, memory-room (c .before .before .before .before .before .before .before .before .before .before .before .before .before .before .before .before .before .before .before .before .before .before .before .args .reach) (widthOf (c .before .before .before .before .before .before .before .before .before .before .before .before .fetched .given .0 .0)) (c .before .before .before .before .before .before .before .before .before .before .before .before .before .before .before .before .before .before .before .before .before .loop .cells) (told saysReached (c .before .before .before .before .before .before .before .reach2 .ensures .0) (c .before .before .before .before .before .reached2 .given .1 ∙ ap reached.At (c .before .before .spot7 .given .1))))
+sub-value : tie.Need-sub-value Inv-loop μ-loop
+sub-value c = omega (arith, memory-room (c .before .before .before .before .before .before .before .before .before .before .before .before .before .before .before .before .before .before .before .before .before .before .args .reach) (widthOf (c .before .before .before .before .before .before .before .before .before .before .before .fetched .given .0 .0)) (c .before .before .before .before .before .before .before .before .before .before .before .before .before .before .before .before .before .before .before .before .loop .cells) (told saysReached (c .before .before .before .before .before .before .reach2 .ensures .0) (c .before .before .before .before .reached2 .given .1 ∙ ap reached.At (c .before .spot7 .given .1))))
 
-mul-write-own : tie.Need-mul-write-own Inv-loop μ-loop
-mul-write-own c = omega (arith, memory-room (c .before .before .before .before .before .before .before .before .before .before .before .before .before .before .before .before .before .before .before .before .before .before .before .args .reach) (widthOf (c .before .before .before .before .before .before .before .before .before .before .before .before .fetched .given .0 .0)) (c .before .before .before .before .before .before .before .before .before .before .before .before .before .before .before .before .before .before .before .before .before .loop .cells) (told saysReached (c .before .before .before .before .before .before .before .reach2 .ensures .0) (c .before .before .before .before .before .reached2 .given .1 ∙ ap reached.At (c .before .before .spot7 .given .1))))
+mul-value : tie.Need-mul-value Inv-loop μ-loop
+mul-value c = omega (arith, memory-room (c .before .before .before .before .before .before .before .before .before .before .before .before .before .before .before .before .before .before .before .before .before .before .args .reach) (widthOf (c .before .before .before .before .before .before .before .before .before .before .before .fetched .given .0 .0)) (c .before .before .before .before .before .before .before .before .before .before .before .before .before .before .before .before .before .before .before .before .loop .cells) (told saysReached (c .before .before .before .before .before .before .reach2 .ensures .0) (c .before .before .before .before .reached2 .given .1 ∙ ap reached.At (c .before .spot7 .given .1))))
 
-element-copy-out-write-own : tie.Need-element-copy-out-write-own Inv-loop μ-loop
-element-copy-out-write-own c = omega (arith, memory-room (c .before .before .before .before .before .before .before .before .before .before .before .before .before .before .before .before .before .before .before .before .before .before .before .args .reach) (widthOf (c .before .before .before .before .before .before .before .before .before .before .before .before .fetched .given .0 .0)) (c .before .before .before .before .before .before .before .before .before .before .before .before .before .before .before .before .before .before .before .before .before .loop .cells) (told saysReached (c .before .before .before .before .before .before .before .reach2 .ensures .0) (c .before .before .before .before .before .reached2 .given .1 ∙ ap reached.At (c .before .before .spot7 .given .1))))
+element-copy-out-value : tie.Need-element-copy-out-value Inv-loop μ-loop
+element-copy-out-value c = omega (arith, memory-room (c .before .before .before .before .before .before .before .before .before .before .before .before .before .before .before .before .before .before .before .before .before .before .args .reach) (widthOf (c .before .before .before .before .before .before .before .before .before .before .before .fetched .given .0 .0)) (c .before .before .before .before .before .before .before .before .before .before .before .before .before .before .before .before .before .before .before .before .loop .cells) (told saysReached (c .before .before .before .before .before .before .reach2 .ensures .0) (c .before .before .before .before .reached2 .given .1 ∙ ap reached.At (c .before .spot7 .given .1))))
 
-write-own-requires : tie.Need-write-own-requires Inv-loop μ-loop
-write-own-requires c κs = ((spot-within (c .before .before .before .before .before .before .before .before .before .before .before .before .before .before .before .before .before .before .before .before .before .before .before .before .args .reach) (widthOf (c .before .before .before .before .before .before .before .before .before .before .before .before .before .fetched .given .0 .0)) (c .before .before .before .before .before .before .before .before .reach2 .ensures .1) (c .before .before .before .before .before .before .reached2 .given .1 ∙ ap reached.At (c .before .before .before .spot7 .given .1))) .0, ((spot-within (c .before .before .before .before .before .before .before .before .before .before .before .before .before .before .before .before .before .before .before .before .before .before .before .before .args .reach) (widthOf (c .before .before .before .before .before .before .before .before .before .before .before .before .before .fetched .given .0 .0)) (c .before .before .before .before .before .before .before .before .reach2 .ensures .1) (c .before .before .before .before .before .before .reached2 .given .1 ∙ ap reached.At (c .before .before .before .spot7 .given .1))) .1, omega (arith, c .before .before .before .before .before .before .before .before .before .before .before .before .before .before .before .before .before .before .before .before .before .before .before .before .pre .bounded .end-within, (c .before .before .before .before .before .before .before .before .before .before .before .before .before .before .before .before .before .before .before .before .before .before .loop .inv .0) .long)))
+store-own-requires : tie.Need-store-own-requires Inv-loop μ-loop
+store-own-requires c κs = (inl (c .before .before .before .before .before .before .before .before .before .before .match3 .keys8), ((spot-within (c .before .before .before .before .before .before .before .before .before .before .before .before .before .before .before .before .before .before .before .before .before .before .before .before .args .reach) (widthOf (c .before .before .before .before .before .before .before .before .before .before .before .before .before .fetched .given .0 .0)) (c .before .before .before .before .before .before .before .before .reach2 .ensures .1) (c .before .before .before .before .before .before .reached2 .given .1 ∙ ap reached.At (c .before .before .before .spot7 .given .1))) .0, ((spot-within (c .before .before .before .before .before .before .before .before .before .before .before .before .before .before .before .before .before .before .before .before .before .before .before .before .args .reach) (widthOf (c .before .before .before .before .before .before .before .before .before .before .before .before .before .fetched .given .0 .0)) (c .before .before .before .before .before .before .before .before .reach2 .ensures .1) (c .before .before .before .before .before .before .reached2 .given .1 ∙ ap reached.At (c .before .before .before .spot7 .given .1))) .1, omega (arith, c .before .before .before .before .before .before .before .before .before .before .before .before .before .before .before .before .before .before .before .before .before .before .before .before .pre .bounded .end-within, (c .before .before .before .before .before .before .before .before .before .before .before .before .before .before .before .before .before .before .before .before .before .before .loop .inv .0) .long))))
+
+lose-requires-2 : tie.Need-lose-requires-2 Inv-loop μ-loop
+lose-requires-2 c κs = search needs
 
 sub-regs-7 : tie.Need-sub-regs-7 Inv-loop μ-loop
-sub-regs-7 c = omega (arith, memory-room (c .before .before .before .before .before .before .before .before .before .before .before .before .before .before .before .before .before .before .before .before .before .before .before .before .before .before .before .args .reach) (widthOf (c .before .before .before .before .before .before .before .before .before .before .before .before .before .before .before .before .fetched .given .0 .0)) (c .before .before .before .before .before .before .before .before .before .before .before .before .before .before .before .before .before .before .before .before .before .before .before .before .before .loop .cells) (told saysReached (c .before .before .before .before .before .before .before .before .before .before .before .reach2 .ensures .0) (c .before .before .before .before .before .before .before .before .before .reached2 .given .1 ∙ ap reached.At (c .before .before .before .before .before .before .spot7 .given .1))))
+sub-regs-7 c = omega (arith, memory-room (c .before .before .before .before .before .before .before .before .before .before .before .before .before .before .before .before .before .before .before .before .before .before .before .before .before .before .before .before .before .args .reach) (widthOf (c .before .before .before .before .before .before .before .before .before .before .before .before .before .before .before .before .before .before .fetched .given .0 .0)) (c .before .before .before .before .before .before .before .before .before .before .before .before .before .before .before .before .before .before .before .before .before .before .before .before .before .before .before .loop .cells) (told saysReached (c .before .before .before .before .before .before .before .before .before .before .before .before .before .reach2 .ensures .0) (c .before .before .before .before .before .before .before .before .before .before .before .reached2 .given .1 ∙ ap reached.At (c .before .before .before .before .before .before .before .before .spot7 .given .1))))
 
 price-requires-14 : tie.Need-price-requires-14 Inv-loop μ-loop
-price-requires-14 c κs = c .before .before .before .before .before .before .before .before .before .before .before .before .before .before .before .before .before .before .before .before .before .before .before .before .before .loop .inv .1 .0
+price-requires-14 c κs = c .before .before .before .before .before .before .before .before .before .before .before .before .before .before .before .before .before .before .before .before .before .before .before .before .before .before .before .loop .inv .1 .0
 
 counted-requires-15 : tie.Need-counted-requires-15 Inv-loop μ-loop
-counted-requires-15 c κs = ((found (c .before .before .before .before .before .before .before .before .before .before .before .before .before .before .before .before)) .less, ((omega (arith, (c .before .before .before .before .before .before .before .before .before .before .before .before .before .before .before .before .before .before .before .before .before .before .before .before .before .before .loop .inv .0) .priced, (c .before .before .before .before .before .before .before .before .before .before .before .before .before .before .before .before .before .before .before .before .before .before .before .before .before .before .loop .inv .0) .limit, (c .before .before .before .before .before .before .before .before .before .before .before .before .before .before .before .before .before .before .before .before .before .before .before .before .before .before .loop .inv .0) .left-within, (found (c .before .before .before .before .before .before .before .before .before .before .before .before .before .before .before .before)) .less)), c .price14 .ensures .1))
+counted-requires-15 c κs = ((found (c .before .before .before .before .before .before .before .before .before .before .before .before .before .before .before .before .before .before)) .less, ((omega (arith, (c .before .before .before .before .before .before .before .before .before .before .before .before .before .before .before .before .before .before .before .before .before .before .before .before .before .before .before .before .loop .inv .0) .priced, (c .before .before .before .before .before .before .before .before .before .before .before .before .before .before .before .before .before .before .before .before .before .before .before .before .before .before .before .before .loop .inv .0) .limit, (c .before .before .before .before .before .before .before .before .before .before .before .before .before .before .before .before .before .before .before .before .before .before .before .before .before .before .before .before .loop .inv .0) .left-within, (found (c .before .before .before .before .before .before .before .before .before .before .before .before .before .before .before .before .before .before)) .less)), c .price14 .ensures .1))
 
 loop-less-25 : tie.Need-loop-less-25 Inv-loop μ-loop
 loop-less-25 c = omega (arith, c .counted15 .ensures .1)
 
 loop-again-25 : tie.Need-loop-again-25 Inv-loop μ-loop
-loop-again-25 c = (goes (found (c .before .before .before .before .before .before .before .before .before .before .before .before .before .before .before .before .before)) (store-acts (found (c .before .before .before .before .before .before .before .before .before .before .before .before .before .before .before .before .before)) (c .before .before .before .before .before .before .before .before .before .before .before .before .before .before .before .match3 .keys8)) (told saysReached (c .before .before .before .before .before .before .before .before .before .before .before .before .before .reach2 .ensures .0) (c .before .before .before .before .before .before .before .before .before .before .before .reached2 .given .1 ∙ ap reached.At (c .before .before .before .before .before .before .before .before .spot7 .given .1))) (written-there (found (c .before .before .before .before .before .before .before .before .before .before .before .before .before .before .before .before .before)) (widthOf (c .before .before .before .before .before .before .before .before .before .before .before .before .before .before .before .before .before .before .fetched .given .0 .0)) (c .before .before .before .before .before .before .before .before .spot7 .given .0 .0) (c .before .before .before .before .write-own .ensures)) refl (c .before .price14 .ensures .0) (c .counted15 .ensures .0), (c .before .before .before .before .before .before .before .before .before .before .before .before .before .before .before .before .before .before .before .before .before .before .before .before .before .before .before .loop .inv .1))
+loop-again-25 c = (goes (found (c .before .before .before .before .before .before .before .before .before .before .before .before .before .before .before .before .before .before .before)) (store-acts (found (c .before .before .before .before .before .before .before .before .before .before .before .before .before .before .before .before .before .before .before)) (inl (c .before .before .before .before .before .before .before .before .before .before .before .before .before .before .before .before .before .match3 .keys8))) (told saysReached (c .before .before .before .before .before .before .before .before .before .before .before .before .before .before .before .reach2 .ensures .0) (c .before .before .before .before .before .before .before .before .before .before .before .before .before .reached2 .given .1 ∙ ap reached.At (c .before .before .before .before .before .before .before .before .before .before .spot7 .given .1))) (written-there (found (c .before .before .before .before .before .before .before .before .before .before .before .before .before .before .before .before .before .before .before)) (widthOf (c .before .before .before .before .before .before .before .before .before .before .before .before .before .before .before .before .before .before .before .before .fetched .given .0 .0)) (c .before .before .before .before .before .before .before .before .before .before .spot7 .given .0 .0) (c .before .before .before .before .before .before .store-own .ensures .written) ∙ held-there (c .before .before .lose2 .ensures (c .before .before .before .before .before .before .before .before .before .before .before .before .before .before .before .before .before .before .before .before .before .before .before .before .before .before .before .before .before .loop .copies) (c .before .before .before .before .before .before .before .before .before .before .before .before .before .before .before .before .before .before .before .before .before .before .before .before .before .before .before .before .before .loop .inv .1 .1 .0))) refl (c .before .price14 .ensures .0) (c .counted15 .ensures .0), (c .before .before .before .before .before .before .before .before .before .before .before .before .before .before .before .before .before .before .before .before .before .before .before .before .before .before .before .before .before .loop .inv .1 .0, ((c .before .before .lose2 .ensures (c .before .before .before .before .before .before .before .before .before .before .before .before .before .before .before .before .before .before .before .before .before .before .before .before .before .before .before .before .before .loop .copies) (c .before .before .before .before .before .before .before .before .before .before .before .before .before .before .before .before .before .before .before .before .before .before .before .before .before .before .before .before .before .loop .inv .1 .1 .0)) .laid, (stored-loses (size (widthOf (c .before .before .before .before .before .before .before .before .before .before .before .before .before .before .before .before .before .before .before .before .fetched .given .0 .0))) (getD (c .before .before .before .before .before .before .before .before .before .before .before .before .before .before .before .before .before .before .before .before .before .before .before .before .before .before .before .before .before .loop .cells) (c .before .before .before .before .before .before .before .before .before .before .before .before .before .before .before .before .before .before .before .before .before .before .before .before .before .before .before .before .before .loop .regs .p - 2) 0) (noteIn (c .before .before .before .before .before .before .before .before .before .before .before .before .before .before .before .before .before .before .before .before .before .before .before .before .before .before .before .before .before .before .before .args .rows .now) .lost) (c .before .before .before .before .before .before .before .before .before .before .before .before .before .before .before .before .before .before .before .before .before .before .before .before .before .before .before .before .before .before .before .args .mem .now) (c .before .before .before .before .before .before .before .before .before .before .before .before .before .before .before .before .before .before .before .before .before .before .before .before .before .before .before .before .before .loop .mem) (c .before .before .before .before .before .before .store-own .last .0) (c .before .before .before .before .before .before .before .before .before .before .spot7 .given .0 .0) (noteIn (c .before .before .before .before .before .before .before .before .before .before .before .before .before .before .before .before .before .before .before .before .before .before .before .before .before .before .before .before .before .loop .rows) .lost) (c .before .before .before .before .before .before .store-own .result) (size-few (widthOf (c .before .before .before .before .before .before .before .before .before .before .before .before .before .before .before .before .before .before .before .before .fetched .given .0 .0))) (omega (arith, memory-room (c .before .before .before .before .before .before .before .before .before .before .before .before .before .before .before .before .before .before .before .before .before .before .before .before .before .before .before .before .before .before .before .args .reach) (widthOf (c .before .before .before .before .before .before .before .before .before .before .before .before .before .before .before .before .before .before .before .before .fetched .given .0 .0)) (c .before .before .before .before .before .before .before .before .before .before .before .before .before .before .before .before .before .before .before .before .before .before .before .before .before .before .before .before .before .loop .cells) (told saysReached (c .before .before .before .before .before .before .before .before .before .before .before .before .before .before .before .reach2 .ensures .0) (c .before .before .before .before .before .before .before .before .before .before .before .before .before .reached2 .given .1 ∙ ap reached.At (c .before .before .before .before .before .before .before .before .before .before .spot7 .given .1))), (c .before .before .before .before .before .before .before .before .before .before .before .before .before .before .before .before .before .before .before .before .before .before .before .before .before .before .before .before .before .loop .inv .0) .long)) (c .before .before .before .before .before .before .store-own .ensures) (c .before .before .before .before .before .before .before .before .before .before .before .before .before .before .before .before .before .before .before .before .before .before .before .before .before .before .before .before .before .loop .inv .1 .1 .1) (ap (λ (n : Note). n .lost) ((c .before .before .lose2 .ensures (c .before .before .before .before .before .before .before .before .before .before .before .before .before .before .before .before .before .before .before .before .before .before .before .before .before .before .before .before .before .loop .copies) (c .before .before .before .before .before .before .before .before .before .before .before .before .before .before .before .before .before .before .before .before .before .before .before .before .before .before .before .before .before .loop .inv .1 .1 .0)) .note-is))))))
 
 enum-known-spot-8 : tie.Need-enum-known-spot-8 Inv-loop μ-loop
 enum-known-spot-8 c = search needs
@@ -716,7 +725,7 @@ loop-less-26 : tie.Need-loop-less-26 Inv-loop μ-loop
 loop-less-26 c = omega (arith, c .counted16 .ensures .1)
 
 loop-again-26 : tie.Need-loop-again-26 Inv-loop μ-loop
-loop-again-26 c = (goes (found (c .before .before .before .before .before .before .before .before .before .before .before .before .before .before .before)) (store-acts (found (c .before .before .before .before .before .before .before .before .before .before .before .before .before .before .before)) (c .before .before .before .before .before .before .before .before .before .before .before .before .before .match3 .keys8)) (told saysReached (c .before .before .before .before .before .before .before .before .before .before .before .reach2 .ensures .0) (c .before .before .before .before .before .before .before .before .before .reached2 .given .1 ∙ ap reached.At (c .before .before .before .before .before .before .spot8 .given .1))) (held-there (kept-whole (found (c .before .before .before .before .before .before .before .before .before .before .before .before .before .before .before)) (widthOf (c .before .before .before .before .before .before .before .before .before .before .before .before .before .before .before .before .fetched .given .0 .0)) (4 * c .before .before .before .before .before .before .spot8 .given .0 .0) (getD (c .before .before .before .before .before .before .before .before .before .before .before .before .before .before .before .before .before .before .before .before .before .before .before .before .before .loop .cells) (c .before .before .before .before .before .before .before .before .before .before .before .before .before .before .before .before .before .before .before .before .before .before .before .before .before .loop .regs .p - 2) 0) ((spot-within (c .before .before .before .before .before .before .before .before .before .before .before .before .before .before .before .before .before .before .before .before .before .before .before .before .before .before .before .args .reach) (widthOf (c .before .before .before .before .before .before .before .before .before .before .before .before .before .before .before .before .fetched .given .0 .0)) (c .before .before .before .before .before .before .before .before .before .before .before .reach2 .ensures .1) (c .before .before .before .before .before .before .before .before .before .reached2 .given .1 ∙ ap reached.At (c .before .before .before .before .before .before .spot8 .given .1))) .0) (c .before .before .set-local .ensures (c .before .before .before .before .before .before .before .before .before .before .before .before .before .before .before .before .before .before .before .before .before .before .before .before .before .loop .copies) (c .before .before .before .before .before .before .before .before .before .before .before .before .before .before .before .before .before .before .before .before .before .before .before .before .before .loop .regs .e) (omega (arith, (c .before .before .before .before .before .before .before .before .before .before .before .before .before .before .before .before .before .before .before .before .before .before .before .before .before .loop .inv .0) .e-within)) (c .before .before .before .before .before .before .before .before .before .before .before .before .before .before .before .before .before .before .before .before .before .before .before .before .before .loop .inv .1 .1)))) refl (c .before .price15 .ensures .0 ∙ ap cyclesOf (sym (long-store (c .before .before .before .before .before .before .before .before .before .before .before .before .before .before .before .before .fetched .given .0 .0) (c .before .before .before .before .before .before .before .before .before .before .before .before .before .match3 .keys8) ((spot-within (c .before .before .before .before .before .before .before .before .before .before .before .before .before .before .before .before .before .before .before .before .before .before .before .before .before .before .before .args .reach) (widthOf (c .before .before .before .before .before .before .before .before .before .before .before .before .before .before .before .before .fetched .given .0 .0)) (c .before .before .before .before .before .before .before .before .before .before .before .reach2 .ensures .1) (c .before .before .before .before .before .before .before .before .before .reached2 .given .1 ∙ ap reached.At (c .before .before .before .before .before .before .spot8 .given .1))) .0)))) (c .counted16 .ensures .0), (c .before .before .before .before .before .before .before .before .before .before .before .before .before .before .before .before .before .before .before .before .before .before .before .before .before .loop .inv .1 .0, (kept-whole (found (c .before .before .before .before .before .before .before .before .before .before .before .before .before .before .before)) (widthOf (c .before .before .before .before .before .before .before .before .before .before .before .before .before .before .before .before .fetched .given .0 .0)) (4 * c .before .before .before .before .before .before .spot8 .given .0 .0) (getD (c .before .before .before .before .before .before .before .before .before .before .before .before .before .before .before .before .before .before .before .before .before .before .before .before .before .loop .cells) (c .before .before .before .before .before .before .before .before .before .before .before .before .before .before .before .before .before .before .before .before .before .before .before .before .before .loop .regs .p - 2) 0) ((spot-within (c .before .before .before .before .before .before .before .before .before .before .before .before .before .before .before .before .before .before .before .before .before .before .before .before .before .before .before .args .reach) (widthOf (c .before .before .before .before .before .before .before .before .before .before .before .before .before .before .before .before .fetched .given .0 .0)) (c .before .before .before .before .before .before .before .before .before .before .before .reach2 .ensures .1) (c .before .before .before .before .before .before .before .before .before .reached2 .given .1 ∙ ap reached.At (c .before .before .before .before .before .before .spot8 .given .1))) .0) (c .before .before .set-local .ensures (c .before .before .before .before .before .before .before .before .before .before .before .before .before .before .before .before .before .before .before .before .before .before .before .before .before .loop .copies) (c .before .before .before .before .before .before .before .before .before .before .before .before .before .before .before .before .before .before .before .before .before .before .before .before .before .loop .regs .e) (omega (arith, (c .before .before .before .before .before .before .before .before .before .before .before .before .before .before .before .before .before .before .before .before .before .before .before .before .before .loop .inv .0) .e-within)) (c .before .before .before .before .before .before .before .before .before .before .before .before .before .before .before .before .before .before .before .before .before .before .before .before .before .loop .inv .1 .1))) .laid))
+loop-again-26 c = (goes (found (c .before .before .before .before .before .before .before .before .before .before .before .before .before .before .before)) (store-acts (found (c .before .before .before .before .before .before .before .before .before .before .before .before .before .before .before)) (inl (c .before .before .before .before .before .before .before .before .before .before .before .before .before .match3 .keys8))) (told saysReached (c .before .before .before .before .before .before .before .before .before .before .before .reach2 .ensures .0) (c .before .before .before .before .before .before .before .before .before .reached2 .given .1 ∙ ap reached.At (c .before .before .before .before .before .before .spot8 .given .1))) (held-there (kept-whole (found (c .before .before .before .before .before .before .before .before .before .before .before .before .before .before .before)) (widthOf (c .before .before .before .before .before .before .before .before .before .before .before .before .before .before .before .before .fetched .given .0 .0)) (4 * c .before .before .before .before .before .before .spot8 .given .0 .0) (getD (c .before .before .before .before .before .before .before .before .before .before .before .before .before .before .before .before .before .before .before .before .before .before .before .before .before .loop .cells) (c .before .before .before .before .before .before .before .before .before .before .before .before .before .before .before .before .before .before .before .before .before .before .before .before .before .loop .regs .p - 2) 0) ((spot-within (c .before .before .before .before .before .before .before .before .before .before .before .before .before .before .before .before .before .before .before .before .before .before .before .before .before .before .before .args .reach) (widthOf (c .before .before .before .before .before .before .before .before .before .before .before .before .before .before .before .before .fetched .given .0 .0)) (c .before .before .before .before .before .before .before .before .before .before .before .reach2 .ensures .1) (c .before .before .before .before .before .before .before .before .before .reached2 .given .1 ∙ ap reached.At (c .before .before .before .before .before .before .spot8 .given .1))) .0) (c .before .before .set-local .ensures (c .before .before .before .before .before .before .before .before .before .before .before .before .before .before .before .before .before .before .before .before .before .before .before .before .before .loop .copies) (c .before .before .before .before .before .before .before .before .before .before .before .before .before .before .before .before .before .before .before .before .before .before .before .before .before .loop .regs .e) (omega (arith, (c .before .before .before .before .before .before .before .before .before .before .before .before .before .before .before .before .before .before .before .before .before .before .before .before .before .loop .inv .0) .e-within)) (c .before .before .before .before .before .before .before .before .before .before .before .before .before .before .before .before .before .before .before .before .before .before .before .before .before .loop .inv .1 .1 .0)))) refl (c .before .price15 .ensures .0) (c .counted16 .ensures .0), (c .before .before .before .before .before .before .before .before .before .before .before .before .before .before .before .before .before .before .before .before .before .before .before .before .before .loop .inv .1 .0, ((kept-whole (found (c .before .before .before .before .before .before .before .before .before .before .before .before .before .before .before)) (widthOf (c .before .before .before .before .before .before .before .before .before .before .before .before .before .before .before .before .fetched .given .0 .0)) (4 * c .before .before .before .before .before .before .spot8 .given .0 .0) (getD (c .before .before .before .before .before .before .before .before .before .before .before .before .before .before .before .before .before .before .before .before .before .before .before .before .before .loop .cells) (c .before .before .before .before .before .before .before .before .before .before .before .before .before .before .before .before .before .before .before .before .before .before .before .before .before .loop .regs .p - 2) 0) ((spot-within (c .before .before .before .before .before .before .before .before .before .before .before .before .before .before .before .before .before .before .before .before .before .before .before .before .before .before .before .args .reach) (widthOf (c .before .before .before .before .before .before .before .before .before .before .before .before .before .before .before .before .fetched .given .0 .0)) (c .before .before .before .before .before .before .before .before .before .before .before .reach2 .ensures .1) (c .before .before .before .before .before .before .before .before .before .reached2 .given .1 ∙ ap reached.At (c .before .before .before .before .before .before .spot8 .given .1))) .0) (c .before .before .set-local .ensures (c .before .before .before .before .before .before .before .before .before .before .before .before .before .before .before .before .before .before .before .before .before .before .before .before .before .loop .copies) (c .before .before .before .before .before .before .before .before .before .before .before .before .before .before .before .before .before .before .before .before .before .before .before .before .before .loop .regs .e) (omega (arith, (c .before .before .before .before .before .before .before .before .before .before .before .before .before .before .before .before .before .before .before .before .before .before .before .before .before .loop .inv .0) .e-within)) (c .before .before .before .before .before .before .before .before .before .before .before .before .before .before .before .before .before .before .before .before .before .before .before .before .before .loop .inv .1 .1 .0))) .laid, ap (λ (n : Note). n .lost % 2 ^ 32) ((kept-whole (found (c .before .before .before .before .before .before .before .before .before .before .before .before .before .before .before)) (widthOf (c .before .before .before .before .before .before .before .before .before .before .before .before .before .before .before .before .fetched .given .0 .0)) (4 * c .before .before .before .before .before .before .spot8 .given .0 .0) (getD (c .before .before .before .before .before .before .before .before .before .before .before .before .before .before .before .before .before .before .before .before .before .before .before .before .before .loop .cells) (c .before .before .before .before .before .before .before .before .before .before .before .before .before .before .before .before .before .before .before .before .before .before .before .before .before .loop .regs .p - 2) 0) ((spot-within (c .before .before .before .before .before .before .before .before .before .before .before .before .before .before .before .before .before .before .before .before .before .before .before .before .before .before .before .args .reach) (widthOf (c .before .before .before .before .before .before .before .before .before .before .before .before .before .before .before .before .fetched .given .0 .0)) (c .before .before .before .before .before .before .before .before .before .before .before .reach2 .ensures .1) (c .before .before .before .before .before .before .before .before .before .reached2 .given .1 ∙ ap reached.At (c .before .before .before .before .before .before .spot8 .given .1))) .0) (c .before .before .set-local .ensures (c .before .before .before .before .before .before .before .before .before .before .before .before .before .before .before .before .before .before .before .before .before .before .before .before .before .loop .copies) (c .before .before .before .before .before .before .before .before .before .before .before .before .before .before .before .before .before .before .before .before .before .before .before .before .before .loop .regs .e) (omega (arith, (c .before .before .before .before .before .before .before .before .before .before .before .before .before .before .before .before .before .before .before .before .before .before .before .before .before .loop .inv .0) .e-within)) (c .before .before .before .before .before .before .before .before .before .before .before .before .before .before .before .before .before .before .before .before .before .before .before .before .before .loop .inv .1 .1 .0))) .note-is) ∙ (c .before .before .before .before .before .before .before .before .before .before .before .before .before .before .before .before .before .before .before .before .before .before .before .before .before .loop .inv .1 .1 .1))))
 
 enum-known-spot-9 : tie.Need-enum-known-spot-9 Inv-loop μ-loop
 enum-known-spot-9 c = search needs
@@ -746,7 +755,7 @@ loop-less-27 : tie.Need-loop-less-27 Inv-loop μ-loop
 loop-less-27 c = omega (arith, c .counted17 .ensures .1)
 
 loop-again-27 : tie.Need-loop-again-27 Inv-loop μ-loop
-loop-again-27 c = (goes (found (c .before .before .before .before .before .before .before .before .before .before .before .before .before .before .before)) (store-acts (found (c .before .before .before .before .before .before .before .before .before .before .before .before .before .before .before)) (c .before .before .before .before .before .before .before .before .before .before .before .before .before .match3 .keys8)) (told saysReached (c .before .before .before .before .before .before .before .before .before .before .before .reach2 .ensures .0) (c .before .before .before .before .before .before .before .before .before .reached2 .given .1 ∙ ap reached.At (c .before .before .before .before .before .before .spot9 .given .1))) (held-there (kept-whole (found (c .before .before .before .before .before .before .before .before .before .before .before .before .before .before .before)) (widthOf (c .before .before .before .before .before .before .before .before .before .before .before .before .before .before .before .before .fetched .given .0 .0)) (4 * (localsCount + c .before .before .before .before .before .before .spot9 .given .0 .0)) (getD (c .before .before .before .before .before .before .before .before .before .before .before .before .before .before .before .before .before .before .before .before .before .before .before .before .before .loop .cells) (c .before .before .before .before .before .before .before .before .before .before .before .before .before .before .before .before .before .before .before .before .before .before .before .before .before .loop .regs .p - 2) 0) ((spot-within (c .before .before .before .before .before .before .before .before .before .before .before .before .before .before .before .before .before .before .before .before .before .before .before .before .before .before .before .args .reach) (widthOf (c .before .before .before .before .before .before .before .before .before .before .before .before .before .before .before .before .fetched .given .0 .0)) (c .before .before .before .before .before .before .before .before .before .before .before .reach2 .ensures .1) (c .before .before .before .before .before .before .before .before .before .reached2 .given .1 ∙ ap reached.At (c .before .before .before .before .before .before .spot9 .given .1))) .0) (c .before .before .set-cell .ensures (c .before .before .before .before .before .before .before .before .before .before .before .before .before .before .before .before .before .before .before .before .before .before .before .before .before .loop .copies) (c .before .before .before .before .before .before .before .before .before .before .before .before .before .before .before .before .before .before .before .before .before .before .before .before .before .loop .regs .s) (omega (arith, (c .before .before .before .before .before .before .before .before .before .before .before .before .before .before .before .before .before .before .before .before .before .before .before .before .before .loop .inv .0) .s-within)) (c .before .before .before .before .before .before .before .before .before .before .before .before .before .before .before .before .before .before .before .before .before .before .before .before .before .loop .inv .1 .1)))) refl (c .before .price16 .ensures .0 ∙ ap cyclesOf (sym (long-store (c .before .before .before .before .before .before .before .before .before .before .before .before .before .before .before .before .fetched .given .0 .0) (c .before .before .before .before .before .before .before .before .before .before .before .before .before .match3 .keys8) ((spot-within (c .before .before .before .before .before .before .before .before .before .before .before .before .before .before .before .before .before .before .before .before .before .before .before .before .before .before .before .args .reach) (widthOf (c .before .before .before .before .before .before .before .before .before .before .before .before .before .before .before .before .fetched .given .0 .0)) (c .before .before .before .before .before .before .before .before .before .before .before .reach2 .ensures .1) (c .before .before .before .before .before .before .before .before .before .reached2 .given .1 ∙ ap reached.At (c .before .before .before .before .before .before .spot9 .given .1))) .0)))) (c .counted17 .ensures .0), (c .before .before .before .before .before .before .before .before .before .before .before .before .before .before .before .before .before .before .before .before .before .before .before .before .before .loop .inv .1 .0, (kept-whole (found (c .before .before .before .before .before .before .before .before .before .before .before .before .before .before .before)) (widthOf (c .before .before .before .before .before .before .before .before .before .before .before .before .before .before .before .before .fetched .given .0 .0)) (4 * (localsCount + c .before .before .before .before .before .before .spot9 .given .0 .0)) (getD (c .before .before .before .before .before .before .before .before .before .before .before .before .before .before .before .before .before .before .before .before .before .before .before .before .before .loop .cells) (c .before .before .before .before .before .before .before .before .before .before .before .before .before .before .before .before .before .before .before .before .before .before .before .before .before .loop .regs .p - 2) 0) ((spot-within (c .before .before .before .before .before .before .before .before .before .before .before .before .before .before .before .before .before .before .before .before .before .before .before .before .before .before .before .args .reach) (widthOf (c .before .before .before .before .before .before .before .before .before .before .before .before .before .before .before .before .fetched .given .0 .0)) (c .before .before .before .before .before .before .before .before .before .before .before .reach2 .ensures .1) (c .before .before .before .before .before .before .before .before .before .reached2 .given .1 ∙ ap reached.At (c .before .before .before .before .before .before .spot9 .given .1))) .0) (c .before .before .set-cell .ensures (c .before .before .before .before .before .before .before .before .before .before .before .before .before .before .before .before .before .before .before .before .before .before .before .before .before .loop .copies) (c .before .before .before .before .before .before .before .before .before .before .before .before .before .before .before .before .before .before .before .before .before .before .before .before .before .loop .regs .s) (omega (arith, (c .before .before .before .before .before .before .before .before .before .before .before .before .before .before .before .before .before .before .before .before .before .before .before .before .before .loop .inv .0) .s-within)) (c .before .before .before .before .before .before .before .before .before .before .before .before .before .before .before .before .before .before .before .before .before .before .before .before .before .loop .inv .1 .1))) .laid))
+loop-again-27 c = (goes (found (c .before .before .before .before .before .before .before .before .before .before .before .before .before .before .before)) (store-acts (found (c .before .before .before .before .before .before .before .before .before .before .before .before .before .before .before)) (inl (c .before .before .before .before .before .before .before .before .before .before .before .before .before .match3 .keys8))) (told saysReached (c .before .before .before .before .before .before .before .before .before .before .before .reach2 .ensures .0) (c .before .before .before .before .before .before .before .before .before .reached2 .given .1 ∙ ap reached.At (c .before .before .before .before .before .before .spot9 .given .1))) (held-there (kept-whole (found (c .before .before .before .before .before .before .before .before .before .before .before .before .before .before .before)) (widthOf (c .before .before .before .before .before .before .before .before .before .before .before .before .before .before .before .before .fetched .given .0 .0)) (4 * (localsCount + c .before .before .before .before .before .before .spot9 .given .0 .0)) (getD (c .before .before .before .before .before .before .before .before .before .before .before .before .before .before .before .before .before .before .before .before .before .before .before .before .before .loop .cells) (c .before .before .before .before .before .before .before .before .before .before .before .before .before .before .before .before .before .before .before .before .before .before .before .before .before .loop .regs .p - 2) 0) ((spot-within (c .before .before .before .before .before .before .before .before .before .before .before .before .before .before .before .before .before .before .before .before .before .before .before .before .before .before .before .args .reach) (widthOf (c .before .before .before .before .before .before .before .before .before .before .before .before .before .before .before .before .fetched .given .0 .0)) (c .before .before .before .before .before .before .before .before .before .before .before .reach2 .ensures .1) (c .before .before .before .before .before .before .before .before .before .reached2 .given .1 ∙ ap reached.At (c .before .before .before .before .before .before .spot9 .given .1))) .0) (c .before .before .set-cell .ensures (c .before .before .before .before .before .before .before .before .before .before .before .before .before .before .before .before .before .before .before .before .before .before .before .before .before .loop .copies) (c .before .before .before .before .before .before .before .before .before .before .before .before .before .before .before .before .before .before .before .before .before .before .before .before .before .loop .regs .s) (omega (arith, (c .before .before .before .before .before .before .before .before .before .before .before .before .before .before .before .before .before .before .before .before .before .before .before .before .before .loop .inv .0) .s-within)) (c .before .before .before .before .before .before .before .before .before .before .before .before .before .before .before .before .before .before .before .before .before .before .before .before .before .loop .inv .1 .1 .0)))) refl (c .before .price16 .ensures .0) (c .counted17 .ensures .0), (c .before .before .before .before .before .before .before .before .before .before .before .before .before .before .before .before .before .before .before .before .before .before .before .before .before .loop .inv .1 .0, ((kept-whole (found (c .before .before .before .before .before .before .before .before .before .before .before .before .before .before .before)) (widthOf (c .before .before .before .before .before .before .before .before .before .before .before .before .before .before .before .before .fetched .given .0 .0)) (4 * (localsCount + c .before .before .before .before .before .before .spot9 .given .0 .0)) (getD (c .before .before .before .before .before .before .before .before .before .before .before .before .before .before .before .before .before .before .before .before .before .before .before .before .before .loop .cells) (c .before .before .before .before .before .before .before .before .before .before .before .before .before .before .before .before .before .before .before .before .before .before .before .before .before .loop .regs .p - 2) 0) ((spot-within (c .before .before .before .before .before .before .before .before .before .before .before .before .before .before .before .before .before .before .before .before .before .before .before .before .before .before .before .args .reach) (widthOf (c .before .before .before .before .before .before .before .before .before .before .before .before .before .before .before .before .fetched .given .0 .0)) (c .before .before .before .before .before .before .before .before .before .before .before .reach2 .ensures .1) (c .before .before .before .before .before .before .before .before .before .reached2 .given .1 ∙ ap reached.At (c .before .before .before .before .before .before .spot9 .given .1))) .0) (c .before .before .set-cell .ensures (c .before .before .before .before .before .before .before .before .before .before .before .before .before .before .before .before .before .before .before .before .before .before .before .before .before .loop .copies) (c .before .before .before .before .before .before .before .before .before .before .before .before .before .before .before .before .before .before .before .before .before .before .before .before .before .loop .regs .s) (omega (arith, (c .before .before .before .before .before .before .before .before .before .before .before .before .before .before .before .before .before .before .before .before .before .before .before .before .before .loop .inv .0) .s-within)) (c .before .before .before .before .before .before .before .before .before .before .before .before .before .before .before .before .before .before .before .before .before .before .before .before .before .loop .inv .1 .1 .0))) .laid, ap (λ (n : Note). n .lost % 2 ^ 32) ((kept-whole (found (c .before .before .before .before .before .before .before .before .before .before .before .before .before .before .before)) (widthOf (c .before .before .before .before .before .before .before .before .before .before .before .before .before .before .before .before .fetched .given .0 .0)) (4 * (localsCount + c .before .before .before .before .before .before .spot9 .given .0 .0)) (getD (c .before .before .before .before .before .before .before .before .before .before .before .before .before .before .before .before .before .before .before .before .before .before .before .before .before .loop .cells) (c .before .before .before .before .before .before .before .before .before .before .before .before .before .before .before .before .before .before .before .before .before .before .before .before .before .loop .regs .p - 2) 0) ((spot-within (c .before .before .before .before .before .before .before .before .before .before .before .before .before .before .before .before .before .before .before .before .before .before .before .before .before .before .before .args .reach) (widthOf (c .before .before .before .before .before .before .before .before .before .before .before .before .before .before .before .before .fetched .given .0 .0)) (c .before .before .before .before .before .before .before .before .before .before .before .reach2 .ensures .1) (c .before .before .before .before .before .before .before .before .before .reached2 .given .1 ∙ ap reached.At (c .before .before .before .before .before .before .spot9 .given .1))) .0) (c .before .before .set-cell .ensures (c .before .before .before .before .before .before .before .before .before .before .before .before .before .before .before .before .before .before .before .before .before .before .before .before .before .loop .copies) (c .before .before .before .before .before .before .before .before .before .before .before .before .before .before .before .before .before .before .before .before .before .before .before .before .before .loop .regs .s) (omega (arith, (c .before .before .before .before .before .before .before .before .before .before .before .before .before .before .before .before .before .before .before .before .before .before .before .before .before .loop .inv .0) .s-within)) (c .before .before .before .before .before .before .before .before .before .before .before .before .before .before .before .before .before .before .before .before .before .before .before .before .before .loop .inv .1 .1 .0))) .note-is) ∙ (c .before .before .before .before .before .before .before .before .before .before .before .before .before .before .before .before .before .before .before .before .before .before .before .before .before .loop .inv .1 .1 .1))))
 
 enum-known-spot-10 : tie.Need-enum-known-spot-10 Inv-loop μ-loop
 enum-known-spot-10 c = search needs
@@ -776,133 +785,307 @@ loop-less-28 : tie.Need-loop-less-28 Inv-loop μ-loop
 loop-less-28 c = omega (arith, c .counted18 .ensures .1)
 
 loop-again-28 : tie.Need-loop-again-28 Inv-loop μ-loop
-loop-again-28 c = (goes (found (c .before .before .before .before .before .before .before .before .before .before .before .before .before .before .before)) (store-acts (found (c .before .before .before .before .before .before .before .before .before .before .before .before .before .before .before)) (c .before .before .before .before .before .before .before .before .before .before .before .before .before .match3 .keys8)) (told saysReached (c .before .before .before .before .before .before .before .before .before .before .before .reach2 .ensures .0) (c .before .before .before .before .before .before .before .before .before .reached2 .given .1 ∙ ap reached.At (c .before .before .before .before .before .before .spot10 .given .1))) (held-there (c .before .before .write-in-view .ensures (c .before .before .before .before .before .before .before .before .before .before .before .before .before .before .before .before .before .before .before .before .before .before .before .before .before .loop .copies) (c .before .before .before .before .before .before .before .before .before .before .before .before .before .before .before .before .before .before .before .before .before .before .before .before .before .loop .inv .1 .1))) refl (c .before .price17 .ensures .0) (c .counted18 .ensures .0), (c .before .before .before .before .before .before .before .before .before .before .before .before .before .before .before .before .before .before .before .before .before .before .before .before .before .loop .inv .1 .0, (c .before .before .write-in-view .ensures (c .before .before .before .before .before .before .before .before .before .before .before .before .before .before .before .before .before .before .before .before .before .before .before .before .before .loop .copies) (c .before .before .before .before .before .before .before .before .before .before .before .before .before .before .before .before .before .before .before .before .before .before .before .before .before .loop .inv .1 .1)) .laid))
+loop-again-28 c = (goes (found (c .before .before .before .before .before .before .before .before .before .before .before .before .before .before .before)) (store-acts (found (c .before .before .before .before .before .before .before .before .before .before .before .before .before .before .before)) (inl (c .before .before .before .before .before .before .before .before .before .before .before .before .before .match3 .keys8))) (told saysReached (c .before .before .before .before .before .before .before .before .before .before .before .reach2 .ensures .0) (c .before .before .before .before .before .before .before .before .before .reached2 .given .1 ∙ ap reached.At (c .before .before .before .before .before .before .spot10 .given .1))) (held-there (c .before .before .write-in-view .ensures (c .before .before .before .before .before .before .before .before .before .before .before .before .before .before .before .before .before .before .before .before .before .before .before .before .before .loop .copies) (c .before .before .before .before .before .before .before .before .before .before .before .before .before .before .before .before .before .before .before .before .before .before .before .before .before .loop .inv .1 .1 .0))) refl (c .before .price17 .ensures .0) (c .counted18 .ensures .0), (c .before .before .before .before .before .before .before .before .before .before .before .before .before .before .before .before .before .before .before .before .before .before .before .before .before .loop .inv .1 .0, ((c .before .before .write-in-view .ensures (c .before .before .before .before .before .before .before .before .before .before .before .before .before .before .before .before .before .before .before .before .before .before .before .before .before .loop .copies) (c .before .before .before .before .before .before .before .before .before .before .before .before .before .before .before .before .before .before .before .before .before .before .before .before .before .loop .inv .1 .1 .0)) .laid, ap (λ (n : Note). n .lost % 2 ^ 32) ((c .before .before .write-in-view .ensures (c .before .before .before .before .before .before .before .before .before .before .before .before .before .before .before .before .before .before .before .before .before .before .before .before .before .loop .copies) (c .before .before .before .before .before .before .before .before .before .before .before .before .before .before .before .before .before .before .before .before .before .before .before .before .before .loop .inv .1 .1 .0)) .note-is) ∙ (c .before .before .before .before .before .before .before .before .before .before .before .before .before .before .before .before .before .before .before .before .before .before .before .before .before .loop .inv .1 .1 .1))))
 
-can-call-requires : tie.Need-can-call-requires Inv-loop μ-loop
-can-call-requires c κs = search needs
+reach-requires-3 : tie.Need-reach-requires-3 Inv-loop μ-loop
+reach-requires-3 c κs = (omega arith, ((c .before .before .before .before .before .before .before .before .before .before .before .before .before .loop .inv .0) .p-within, c .before .before .before .before .before .before .before .before .before .before .before .before .before .before .before .pre .bounded .shared-within))
+
+enum-known-reached-3 : tie.Need-enum-known-reached-3 Inv-loop μ-loop
+enum-known-reached-3 c = search needs
 
 enum-told-15 : tie.Need-enum-told-15 Inv-loop μ-loop
 enum-told-15 c = search needs
 
-enum-told-16 : tie.Need-enum-told-16 Inv-loop μ-loop
-enum-told-16 c = search needs
-
-by-check-requires-5 : tie.Need-by-check-requires-5 Inv-loop μ-loop
-by-check-requires-5 c κs = search needs
+by-reach-requires-3 : tie.Need-by-reach-requires-3 Inv-loop μ-loop
+by-reach-requires-3 c κs = search needs
 
 loop-less-29 : tie.Need-loop-less-29 Inv-loop μ-loop
-loop-less-29 c = halted-less (c .before .before .before .before .before .before .before .before .before .before .before .before .before .before .before .before .loop .regs) (c .by-check5 .ensures) (ap saysChecked (c .before .enum-told16 .given .1)) ((found (c .before .before .before .before .before .before)) .less)
+loop-less-29 c = halted-less (c .before .before .before .before .before .before .before .before .before .before .before .before .before .before .before .before .before .loop .regs) (c .by-reach3 .ensures) (ap saysReached (c .before .enum-told15 .given .1)) ((found (c .before .before .before .before .before .before .before)) .less)
 
 loop-again-29 : tie.Need-loop-again-29 Inv-loop μ-loop
-loop-again-29 c = (ends (found (c .before .before .before .before .before .before)) (call-acts (found (c .before .before .before .before .before .before)) (c .before .before .before .before .match3 .keys9)) (told saysChecked (c .before .before .before .can-call .ensures) (c .before .enum-told16 .given .1)) (c .before .before .before .can-call .ensures) (c .by-check5 .ensures), (c .before .before .before .before .before .before .before .before .before .before .before .before .before .before .before .before .loop .inv .1))
+loop-again-29 c = (ends (found (c .before .before .before .before .before .before .before)) (store-acts (found (c .before .before .before .before .before .before .before)) (inr (c .before .before .before .before .before .match3 .keys9))) (told saysReached (c .before .before .before .reach3 .ensures .0) (c .before .enum-told15 .given .1)) (c .before .before .before .reach3 .ensures .0) (c .by-reach3 .ensures), (c .before .before .before .before .before .before .before .before .before .before .before .before .before .before .before .before .before .loop .inv .1))
 
-mul-returns-4 : tie.Need-mul-returns-4 Inv-loop μ-loop
-mul-returns-4 c = omega (arith, call-room (told saysChecked (c .before .before .can-call .ensures) (c .enum-told15 .given .1)))
+enum-known-spot-11 : tie.Need-enum-known-spot-11 Inv-loop μ-loop
+enum-known-spot-11 c = search needs
 
-element-write-returns-3 : tie.Need-element-write-returns-3 Inv-loop μ-loop
-element-write-returns-3 c = omega (arith, call-room (told saysChecked (c .before .before .can-call .ensures) (c .enum-told15 .given .1)))
+sub-store-number-2 : tie.Need-sub-store-number-2 Inv-loop μ-loop
+sub-store-number-2 c = omega (arith, memory-room (c .before .before .before .before .before .before .before .before .before .before .before .before .before .before .before .before .before .before .before .before .before .before .before .args .reach) (widthOf (c .before .before .before .before .before .before .before .before .before .before .before .before .fetched .given .0 .0)) (c .before .before .before .before .before .before .before .before .before .before .before .before .before .before .before .before .before .before .before .before .before .loop .cells) (told saysReached (c .before .before .before .before .before .before .before .reach3 .ensures .0) (c .before .before .before .before .before .reached3 .given .1 ∙ ap reached.At (c .before .before .spot11 .given .1))))
 
-called-requires-2 : tie.Need-called-requires-2 Inv-loop μ-loop
-called-requires-2 c κs = omega (arith, call-room (told saysChecked (c .before .before .before .before .can-call .ensures) (c .before .before .enum-told15 .given .1)))
+mul-store-number-2 : tie.Need-mul-store-number-2 Inv-loop μ-loop
+mul-store-number-2 c = omega (arith, memory-room (c .before .before .before .before .before .before .before .before .before .before .before .before .before .before .before .before .before .before .before .before .before .before .before .args .reach) (widthOf (c .before .before .before .before .before .before .before .before .before .before .before .before .fetched .given .0 .0)) (c .before .before .before .before .before .before .before .before .before .before .before .before .before .before .before .before .before .before .before .before .before .loop .cells) (told saysReached (c .before .before .before .before .before .before .before .reach3 .ensures .0) (c .before .before .before .before .before .reached3 .given .1 ∙ ap reached.At (c .before .before .spot11 .given .1))))
 
-add-regs-8 : tie.Need-add-regs-8 Inv-loop μ-loop
-add-regs-8 c = omega (arith, call-room (told saysChecked (c .before .before .before .before .before .can-call .ensures) (c .before .before .before .enum-told15 .given .1)))
+element-copy-out-store-number-2 : tie.Need-element-copy-out-store-number-2 Inv-loop μ-loop
+element-copy-out-store-number-2 c = omega (arith, memory-room (c .before .before .before .before .before .before .before .before .before .before .before .before .before .before .before .before .before .before .before .before .before .before .before .args .reach) (widthOf (c .before .before .before .before .before .before .before .before .before .before .before .before .fetched .given .0 .0)) (c .before .before .before .before .before .before .before .before .before .before .before .before .before .before .before .before .before .before .before .before .before .loop .cells) (told saysReached (c .before .before .before .before .before .before .before .reach3 .ensures .0) (c .before .before .before .before .before .reached3 .given .1 ∙ ap reached.At (c .before .before .spot11 .given .1))))
 
-add-regs-9 : tie.Need-add-regs-9 Inv-loop μ-loop
-add-regs-9 c = omega (arith, call-room (told saysChecked (c .before .before .before .before .before .can-call .ensures) (c .before .before .before .enum-told15 .given .1)))
+store-number-requires-2 : tie.Need-store-number-requires-2 Inv-loop μ-loop
+store-number-requires-2 c κs = (inr (c .before .before .before .before .before .before .before .before .before .before .match3 .keys9), (omega (arith, memory-room (c .before .before .before .before .before .before .before .before .before .before .before .before .before .before .before .before .before .before .before .before .before .before .before .before .args .reach) (widthOf (c .before .before .before .before .before .before .before .before .before .before .before .before .before .fetched .given .0 .0)) (c .before .before .before .before .before .before .before .before .before .before .before .before .before .before .before .before .before .before .before .before .before .before .loop .cells) (told saysReached (c .before .before .before .before .before .before .before .before .reach3 .ensures .0) (c .before .before .before .before .before .before .reached3 .given .1 ∙ ap reached.At (c .before .before .before .spot11 .given .1))), (c .before .before .before .before .before .before .before .before .before .before .before .before .before .before .before .before .before .before .before .before .before .before .loop .inv .0) .long)))
+
+lose-requires-3 : tie.Need-lose-requires-3 Inv-loop μ-loop
+lose-requires-3 c κs = search needs
+
+sub-regs-11 : tie.Need-sub-regs-11 Inv-loop μ-loop
+sub-regs-11 c = omega (arith, memory-room (c .before .before .before .before .before .before .before .before .before .before .before .before .before .before .before .before .before .before .before .before .before .before .before .before .before .before .before .before .before .args .reach) (widthOf (c .before .before .before .before .before .before .before .before .before .before .before .before .before .before .before .before .before .before .fetched .given .0 .0)) (c .before .before .before .before .before .before .before .before .before .before .before .before .before .before .before .before .before .before .before .before .before .before .before .before .before .before .before .loop .cells) (told saysReached (c .before .before .before .before .before .before .before .before .before .before .before .before .before .reach3 .ensures .0) (c .before .before .before .before .before .before .before .before .before .before .before .reached3 .given .1 ∙ ap reached.At (c .before .before .before .before .before .before .before .before .spot11 .given .1))))
 
 price-requires-18 : tie.Need-price-requires-18 Inv-loop μ-loop
-price-requires-18 c κs = c .before .before .before .before .before .before .before .before .before .before .before .before .before .before .before .before .before .before .loop .inv .1 .0
+price-requires-18 c κs = c .before .before .before .before .before .before .before .before .before .before .before .before .before .before .before .before .before .before .before .before .before .before .before .before .before .before .before .loop .inv .1 .0
 
 counted-requires-19 : tie.Need-counted-requires-19 Inv-loop μ-loop
-counted-requires-19 c κs = ((found (c .before .before .before .before .before .before .before .before .before)) .less, ((omega (arith, (c .before .before .before .before .before .before .before .before .before .before .before .before .before .before .before .before .before .before .before .loop .inv .0) .priced, (c .before .before .before .before .before .before .before .before .before .before .before .before .before .before .before .before .before .before .before .loop .inv .0) .limit, (c .before .before .before .before .before .before .before .before .before .before .before .before .before .before .before .before .before .before .before .loop .inv .0) .left-within, (found (c .before .before .before .before .before .before .before .before .before)) .less)), c .price18 .ensures .1))
+counted-requires-19 c κs = ((found (c .before .before .before .before .before .before .before .before .before .before .before .before .before .before .before .before .before .before)) .less, ((omega (arith, (c .before .before .before .before .before .before .before .before .before .before .before .before .before .before .before .before .before .before .before .before .before .before .before .before .before .before .before .before .loop .inv .0) .priced, (c .before .before .before .before .before .before .before .before .before .before .before .before .before .before .before .before .before .before .before .before .before .before .before .before .before .before .before .before .loop .inv .0) .limit, (c .before .before .before .before .before .before .before .before .before .before .before .before .before .before .before .before .before .before .before .before .before .before .before .before .before .before .before .before .loop .inv .0) .left-within, (found (c .before .before .before .before .before .before .before .before .before .before .before .before .before .before .before .before .before .before)) .less)), c .price18 .ensures .1))
 
 loop-less-30 : tie.Need-loop-less-30 Inv-loop μ-loop
 loop-less-30 c = omega (arith, c .counted19 .ensures .1)
 
 loop-again-30 : tie.Need-loop-again-30 Inv-loop μ-loop
-loop-again-30 c = (goes (found (c .before .before .before .before .before .before .before .before .before .before)) (call-acts (found (c .before .before .before .before .before .before .before .before .before .before)) (c .before .before .before .before .before .before .before .before .match3 .keys9)) (told saysChecked (c .before .before .before .before .before .before .before .can-call .ensures) (c .before .before .before .before .before .enum-told15 .given .1)) (held-there (c .before .before .called2 .ensures (c .before .before .before .before .before .before .before .before .before .before .before .before .before .before .before .before .before .before .before .before .loop .inv .1 .1))) refl (c .before .price18 .ensures .0) (c .counted19 .ensures .0), (c .before .before .before .before .before .before .before .before .before .before .before .before .before .before .before .before .before .before .before .before .loop .inv .1 .0, (c .before .before .called2 .ensures (c .before .before .before .before .before .before .before .before .before .before .before .before .before .before .before .before .before .before .before .before .loop .inv .1 .1)) .laid))
+loop-again-30 c = (goes (found (c .before .before .before .before .before .before .before .before .before .before .before .before .before .before .before .before .before .before .before)) (store-acts (found (c .before .before .before .before .before .before .before .before .before .before .before .before .before .before .before .before .before .before .before)) (inr (c .before .before .before .before .before .before .before .before .before .before .before .before .before .before .before .before .before .match3 .keys9))) (told saysReached (c .before .before .before .before .before .before .before .before .before .before .before .before .before .before .before .reach3 .ensures .0) (c .before .before .before .before .before .before .before .before .before .before .before .before .before .reached3 .given .1 ∙ ap reached.At (c .before .before .before .before .before .before .before .before .before .before .spot11 .given .1))) (written-there (found (c .before .before .before .before .before .before .before .before .before .before .before .before .before .before .before .before .before .before .before)) (widthOf (c .before .before .before .before .before .before .before .before .before .before .before .before .before .before .before .before .before .before .before .before .fetched .given .0 .0)) (c .before .before .before .before .before .before .before .before .before .before .spot11 .given .0 .0) (c .before .before .before .before .before .before .store-number2 .ensures .written) ∙ held-there (c .before .before .lose3 .ensures (c .before .before .before .before .before .before .before .before .before .before .before .before .before .before .before .before .before .before .before .before .before .before .before .before .before .before .before .before .before .loop .copies) (c .before .before .before .before .before .before .before .before .before .before .before .before .before .before .before .before .before .before .before .before .before .before .before .before .before .before .before .before .before .loop .inv .1 .1 .0))) refl (c .before .price18 .ensures .0) (c .counted19 .ensures .0), (c .before .before .before .before .before .before .before .before .before .before .before .before .before .before .before .before .before .before .before .before .before .before .before .before .before .before .before .before .before .loop .inv .1 .0, ((c .before .before .lose3 .ensures (c .before .before .before .before .before .before .before .before .before .before .before .before .before .before .before .before .before .before .before .before .before .before .before .before .before .before .before .before .before .loop .copies) (c .before .before .before .before .before .before .before .before .before .before .before .before .before .before .before .before .before .before .before .before .before .before .before .before .before .before .before .before .before .loop .inv .1 .1 .0)) .laid, (stored-loses (size (widthOf (c .before .before .before .before .before .before .before .before .before .before .before .before .before .before .before .before .before .before .before .before .fetched .given .0 .0))) (getD (c .before .before .before .before .before .before .before .before .before .before .before .before .before .before .before .before .before .before .before .before .before .before .before .before .before .before .before .before .before .loop .cells) (c .before .before .before .before .before .before .before .before .before .before .before .before .before .before .before .before .before .before .before .before .before .before .before .before .before .before .before .before .before .loop .regs .p - 2) 0) (noteIn (c .before .before .before .before .before .before .before .before .before .before .before .before .before .before .before .before .before .before .before .before .before .before .before .before .before .before .before .before .before .before .before .args .rows .now) .lost) (c .before .before .before .before .before .before .before .before .before .before .before .before .before .before .before .before .before .before .before .before .before .before .before .before .before .before .before .before .before .before .before .args .mem .now) (c .before .before .before .before .before .before .before .before .before .before .before .before .before .before .before .before .before .before .before .before .before .before .before .before .before .before .before .before .before .loop .mem) (c .before .before .before .before .before .before .store-number2 .last .0) (c .before .before .before .before .before .before .before .before .before .before .spot11 .given .0 .0) (noteIn (c .before .before .before .before .before .before .before .before .before .before .before .before .before .before .before .before .before .before .before .before .before .before .before .before .before .before .before .before .before .loop .rows) .lost) (c .before .before .before .before .before .before .store-number2 .result) (size-few (widthOf (c .before .before .before .before .before .before .before .before .before .before .before .before .before .before .before .before .before .before .before .before .fetched .given .0 .0))) (omega (arith, memory-room (c .before .before .before .before .before .before .before .before .before .before .before .before .before .before .before .before .before .before .before .before .before .before .before .before .before .before .before .before .before .before .before .args .reach) (widthOf (c .before .before .before .before .before .before .before .before .before .before .before .before .before .before .before .before .before .before .before .before .fetched .given .0 .0)) (c .before .before .before .before .before .before .before .before .before .before .before .before .before .before .before .before .before .before .before .before .before .before .before .before .before .before .before .before .before .loop .cells) (told saysReached (c .before .before .before .before .before .before .before .before .before .before .before .before .before .before .before .reach3 .ensures .0) (c .before .before .before .before .before .before .before .before .before .before .before .before .before .reached3 .given .1 ∙ ap reached.At (c .before .before .before .before .before .before .before .before .before .before .spot11 .given .1))), (c .before .before .before .before .before .before .before .before .before .before .before .before .before .before .before .before .before .before .before .before .before .before .before .before .before .before .before .before .before .loop .inv .0) .long)) (c .before .before .before .before .before .before .store-number2 .ensures) (c .before .before .before .before .before .before .before .before .before .before .before .before .before .before .before .before .before .before .before .before .before .before .before .before .before .before .before .before .before .loop .inv .1 .1 .1) (ap (λ (n : Note). n .lost) ((c .before .before .lose3 .ensures (c .before .before .before .before .before .before .before .before .before .before .before .before .before .before .before .before .before .before .before .before .before .before .before .before .before .before .before .before .before .loop .copies) (c .before .before .before .before .before .before .before .before .before .before .before .before .before .before .before .before .before .before .before .before .before .before .before .before .before .before .before .before .before .loop .inv .1 .1 .0)) .note-is))))))
 
-can-call-requires-2 : tie.Need-can-call-requires-2 Inv-loop μ-loop
-can-call-requires-2 c κs = search needs
+enum-known-spot-12 : tie.Need-enum-known-spot-12 Inv-loop μ-loop
+enum-known-spot-12 c = search needs
+
+sub-value-2 : tie.Need-sub-value-2 Inv-loop μ-loop
+sub-value-2 c = omega (arith, memory-room (c .before .before .before .before .before .before .before .before .before .before .before .before .before .before .before .before .before .before .before .before .before .before .args .reach) (widthOf (c .before .before .before .before .before .before .before .before .before .before .before .fetched .given .0 .0)) (c .before .before .before .before .before .before .before .before .before .before .before .before .before .before .before .before .before .before .before .before .loop .cells) (told saysReached (c .before .before .before .before .before .before .reach3 .ensures .0) (c .before .before .before .before .reached3 .given .1 ∙ ap reached.At (c .before .spot12 .given .1))))
+
+mul-value-2 : tie.Need-mul-value-2 Inv-loop μ-loop
+mul-value-2 c = omega (arith, memory-room (c .before .before .before .before .before .before .before .before .before .before .before .before .before .before .before .before .before .before .before .before .before .before .args .reach) (widthOf (c .before .before .before .before .before .before .before .before .before .before .before .fetched .given .0 .0)) (c .before .before .before .before .before .before .before .before .before .before .before .before .before .before .before .before .before .before .before .before .loop .cells) (told saysReached (c .before .before .before .before .before .before .reach3 .ensures .0) (c .before .before .before .before .reached3 .given .1 ∙ ap reached.At (c .before .spot12 .given .1))))
+
+element-copy-out-value-2 : tie.Need-element-copy-out-value-2 Inv-loop μ-loop
+element-copy-out-value-2 c = omega (arith, memory-room (c .before .before .before .before .before .before .before .before .before .before .before .before .before .before .before .before .before .before .before .before .before .before .args .reach) (widthOf (c .before .before .before .before .before .before .before .before .before .before .before .fetched .given .0 .0)) (c .before .before .before .before .before .before .before .before .before .before .before .before .before .before .before .before .before .before .before .before .loop .cells) (told saysReached (c .before .before .before .before .before .before .reach3 .ensures .0) (c .before .before .before .before .reached3 .given .1 ∙ ap reached.At (c .before .spot12 .given .1))))
+
+store-own-requires-2 : tie.Need-store-own-requires-2 Inv-loop μ-loop
+store-own-requires-2 c κs = (inr (c .before .before .before .before .before .before .before .before .before .before .match3 .keys9), ((spot-within (c .before .before .before .before .before .before .before .before .before .before .before .before .before .before .before .before .before .before .before .before .before .before .before .before .args .reach) (widthOf (c .before .before .before .before .before .before .before .before .before .before .before .before .before .fetched .given .0 .0)) (c .before .before .before .before .before .before .before .before .reach3 .ensures .1) (c .before .before .before .before .before .before .reached3 .given .1 ∙ ap reached.At (c .before .before .before .spot12 .given .1))) .0, ((spot-within (c .before .before .before .before .before .before .before .before .before .before .before .before .before .before .before .before .before .before .before .before .before .before .before .before .args .reach) (widthOf (c .before .before .before .before .before .before .before .before .before .before .before .before .before .fetched .given .0 .0)) (c .before .before .before .before .before .before .before .before .reach3 .ensures .1) (c .before .before .before .before .before .before .reached3 .given .1 ∙ ap reached.At (c .before .before .before .spot12 .given .1))) .1, omega (arith, c .before .before .before .before .before .before .before .before .before .before .before .before .before .before .before .before .before .before .before .before .before .before .before .before .pre .bounded .end-within, (c .before .before .before .before .before .before .before .before .before .before .before .before .before .before .before .before .before .before .before .before .before .before .loop .inv .0) .long))))
+
+lose-requires-4 : tie.Need-lose-requires-4 Inv-loop μ-loop
+lose-requires-4 c κs = search needs
+
+sub-regs-12 : tie.Need-sub-regs-12 Inv-loop μ-loop
+sub-regs-12 c = omega (arith, memory-room (c .before .before .before .before .before .before .before .before .before .before .before .before .before .before .before .before .before .before .before .before .before .before .before .before .before .before .before .before .before .args .reach) (widthOf (c .before .before .before .before .before .before .before .before .before .before .before .before .before .before .before .before .before .before .fetched .given .0 .0)) (c .before .before .before .before .before .before .before .before .before .before .before .before .before .before .before .before .before .before .before .before .before .before .before .before .before .before .before .loop .cells) (told saysReached (c .before .before .before .before .before .before .before .before .before .before .before .before .before .reach3 .ensures .0) (c .before .before .before .before .before .before .before .before .before .before .before .reached3 .given .1 ∙ ap reached.At (c .before .before .before .before .before .before .before .before .spot12 .given .1))))
+
+price-requires-19 : tie.Need-price-requires-19 Inv-loop μ-loop
+price-requires-19 c κs = c .before .before .before .before .before .before .before .before .before .before .before .before .before .before .before .before .before .before .before .before .before .before .before .before .before .before .before .loop .inv .1 .0
+
+counted-requires-20 : tie.Need-counted-requires-20 Inv-loop μ-loop
+counted-requires-20 c κs = ((found (c .before .before .before .before .before .before .before .before .before .before .before .before .before .before .before .before .before .before)) .less, ((omega (arith, (c .before .before .before .before .before .before .before .before .before .before .before .before .before .before .before .before .before .before .before .before .before .before .before .before .before .before .before .before .loop .inv .0) .priced, (c .before .before .before .before .before .before .before .before .before .before .before .before .before .before .before .before .before .before .before .before .before .before .before .before .before .before .before .before .loop .inv .0) .limit, (c .before .before .before .before .before .before .before .before .before .before .before .before .before .before .before .before .before .before .before .before .before .before .before .before .before .before .before .before .loop .inv .0) .left-within, (found (c .before .before .before .before .before .before .before .before .before .before .before .before .before .before .before .before .before .before)) .less)), c .price19 .ensures .1))
+
+loop-less-31 : tie.Need-loop-less-31 Inv-loop μ-loop
+loop-less-31 c = omega (arith, c .counted20 .ensures .1)
+
+loop-again-31 : tie.Need-loop-again-31 Inv-loop μ-loop
+loop-again-31 c = (goes (found (c .before .before .before .before .before .before .before .before .before .before .before .before .before .before .before .before .before .before .before)) (store-acts (found (c .before .before .before .before .before .before .before .before .before .before .before .before .before .before .before .before .before .before .before)) (inr (c .before .before .before .before .before .before .before .before .before .before .before .before .before .before .before .before .before .match3 .keys9))) (told saysReached (c .before .before .before .before .before .before .before .before .before .before .before .before .before .before .before .reach3 .ensures .0) (c .before .before .before .before .before .before .before .before .before .before .before .before .before .reached3 .given .1 ∙ ap reached.At (c .before .before .before .before .before .before .before .before .before .before .spot12 .given .1))) (written-there (found (c .before .before .before .before .before .before .before .before .before .before .before .before .before .before .before .before .before .before .before)) (widthOf (c .before .before .before .before .before .before .before .before .before .before .before .before .before .before .before .before .before .before .before .before .fetched .given .0 .0)) (c .before .before .before .before .before .before .before .before .before .before .spot12 .given .0 .0) (c .before .before .before .before .before .before .store-own2 .ensures .written) ∙ held-there (c .before .before .lose4 .ensures (c .before .before .before .before .before .before .before .before .before .before .before .before .before .before .before .before .before .before .before .before .before .before .before .before .before .before .before .before .before .loop .copies) (c .before .before .before .before .before .before .before .before .before .before .before .before .before .before .before .before .before .before .before .before .before .before .before .before .before .before .before .before .before .loop .inv .1 .1 .0))) refl (c .before .price19 .ensures .0) (c .counted20 .ensures .0), (c .before .before .before .before .before .before .before .before .before .before .before .before .before .before .before .before .before .before .before .before .before .before .before .before .before .before .before .before .before .loop .inv .1 .0, ((c .before .before .lose4 .ensures (c .before .before .before .before .before .before .before .before .before .before .before .before .before .before .before .before .before .before .before .before .before .before .before .before .before .before .before .before .before .loop .copies) (c .before .before .before .before .before .before .before .before .before .before .before .before .before .before .before .before .before .before .before .before .before .before .before .before .before .before .before .before .before .loop .inv .1 .1 .0)) .laid, (stored-loses (size (widthOf (c .before .before .before .before .before .before .before .before .before .before .before .before .before .before .before .before .before .before .before .before .fetched .given .0 .0))) (getD (c .before .before .before .before .before .before .before .before .before .before .before .before .before .before .before .before .before .before .before .before .before .before .before .before .before .before .before .before .before .loop .cells) (c .before .before .before .before .before .before .before .before .before .before .before .before .before .before .before .before .before .before .before .before .before .before .before .before .before .before .before .before .before .loop .regs .p - 2) 0) (noteIn (c .before .before .before .before .before .before .before .before .before .before .before .before .before .before .before .before .before .before .before .before .before .before .before .before .before .before .before .before .before .before .before .args .rows .now) .lost) (c .before .before .before .before .before .before .before .before .before .before .before .before .before .before .before .before .before .before .before .before .before .before .before .before .before .before .before .before .before .before .before .args .mem .now) (c .before .before .before .before .before .before .before .before .before .before .before .before .before .before .before .before .before .before .before .before .before .before .before .before .before .before .before .before .before .loop .mem) (c .before .before .before .before .before .before .store-own2 .last .0) (c .before .before .before .before .before .before .before .before .before .before .spot12 .given .0 .0) (noteIn (c .before .before .before .before .before .before .before .before .before .before .before .before .before .before .before .before .before .before .before .before .before .before .before .before .before .before .before .before .before .loop .rows) .lost) (c .before .before .before .before .before .before .store-own2 .result) (size-few (widthOf (c .before .before .before .before .before .before .before .before .before .before .before .before .before .before .before .before .before .before .before .before .fetched .given .0 .0))) (omega (arith, memory-room (c .before .before .before .before .before .before .before .before .before .before .before .before .before .before .before .before .before .before .before .before .before .before .before .before .before .before .before .before .before .before .before .args .reach) (widthOf (c .before .before .before .before .before .before .before .before .before .before .before .before .before .before .before .before .before .before .before .before .fetched .given .0 .0)) (c .before .before .before .before .before .before .before .before .before .before .before .before .before .before .before .before .before .before .before .before .before .before .before .before .before .before .before .before .before .loop .cells) (told saysReached (c .before .before .before .before .before .before .before .before .before .before .before .before .before .before .before .reach3 .ensures .0) (c .before .before .before .before .before .before .before .before .before .before .before .before .before .reached3 .given .1 ∙ ap reached.At (c .before .before .before .before .before .before .before .before .before .before .spot12 .given .1))), (c .before .before .before .before .before .before .before .before .before .before .before .before .before .before .before .before .before .before .before .before .before .before .before .before .before .before .before .before .before .loop .inv .0) .long)) (c .before .before .before .before .before .before .store-own2 .ensures) (c .before .before .before .before .before .before .before .before .before .before .before .before .before .before .before .before .before .before .before .before .before .before .before .before .before .before .before .before .before .loop .inv .1 .1 .1) (ap (λ (n : Note). n .lost) ((c .before .before .lose4 .ensures (c .before .before .before .before .before .before .before .before .before .before .before .before .before .before .before .before .before .before .before .before .before .before .before .before .before .before .before .before .before .loop .copies) (c .before .before .before .before .before .before .before .before .before .before .before .before .before .before .before .before .before .before .before .before .before .before .before .before .before .before .before .before .before .loop .inv .1 .1 .0)) .note-is))))))
+
+enum-known-spot-13 : tie.Need-enum-known-spot-13 Inv-loop μ-loop
+enum-known-spot-13 c = search needs
+
+sub-set-local-2 : tie.Need-sub-set-local-2 Inv-loop μ-loop
+sub-set-local-2 c = omega (arith, view-room (c .before .before .before .before .before .before .before .before .before .before .before .before .before .before .before .before .before .before .before .before .before .before .before .args .reach) (widthOf (c .before .before .before .before .before .before .before .before .before .before .before .before .fetched .given .0 .0)) (c .before .before .before .before .before .before .before .before .before .before .before .before .before .before .before .before .before .before .before .before .before .loop .cells) (told saysReached (c .before .before .before .before .before .before .before .reach3 .ensures .0) (c .before .before .before .before .before .reached3 .given .1 ∙ ap reached.At (c .before .before .spot13 .given .1))), (c .before .before .before .before .before .before .before .before .before .before .before .before .before .before .before .before .before .before .before .before .before .loop .inv .0) .p-within)
+
+mul-set-local-2 : tie.Need-mul-set-local-2 Inv-loop μ-loop
+mul-set-local-2 c = omega (arith, view-room (c .before .before .before .before .before .before .before .before .before .before .before .before .before .before .before .before .before .before .before .before .before .before .before .args .reach) (widthOf (c .before .before .before .before .before .before .before .before .before .before .before .before .fetched .given .0 .0)) (c .before .before .before .before .before .before .before .before .before .before .before .before .before .before .before .before .before .before .before .before .before .loop .cells) (told saysReached (c .before .before .before .before .before .before .before .reach3 .ensures .0) (c .before .before .before .before .before .reached3 .given .1 ∙ ap reached.At (c .before .before .spot13 .given .1))), (c .before .before .before .before .before .before .before .before .before .before .before .before .before .before .before .before .before .before .before .before .before .loop .inv .0) .p-within)
+
+element-copy-out-set-local-2 : tie.Need-element-copy-out-set-local-2 Inv-loop μ-loop
+element-copy-out-set-local-2 c = omega (arith, view-room (c .before .before .before .before .before .before .before .before .before .before .before .before .before .before .before .before .before .before .before .before .before .before .before .args .reach) (widthOf (c .before .before .before .before .before .before .before .before .before .before .before .before .fetched .given .0 .0)) (c .before .before .before .before .before .before .before .before .before .before .before .before .before .before .before .before .before .before .before .before .before .loop .cells) (told saysReached (c .before .before .before .before .before .before .before .reach3 .ensures .0) (c .before .before .before .before .before .reached3 .given .1 ∙ ap reached.At (c .before .before .spot13 .given .1))), (c .before .before .before .before .before .before .before .before .before .before .before .before .before .before .before .before .before .before .before .before .before .loop .inv .0) .p-within)
+
+set-local-requires-2 : tie.Need-set-local-requires-2 Inv-loop μ-loop
+set-local-requires-2 c κs = ((omega (arith, (c .before .before .before .before .before .before .before .before .before .before .before .before .before .before .before .before .before .before .before .before .before .before .loop .inv .0) .s-within)), (spot-within (c .before .before .before .before .before .before .before .before .before .before .before .before .before .before .before .before .before .before .before .before .before .before .before .before .args .reach) (widthOf (c .before .before .before .before .before .before .before .before .before .before .before .before .before .fetched .given .0 .0)) (c .before .before .before .before .before .before .before .before .reach3 .ensures .1) (c .before .before .before .before .before .before .reached3 .given .1 ∙ ap reached.At (c .before .before .before .spot13 .given .1))) .1)
+
+sub-regs-13 : tie.Need-sub-regs-13 Inv-loop μ-loop
+sub-regs-13 c = omega (arith, view-room (c .before .before .before .before .before .before .before .before .before .before .before .before .before .before .before .before .before .before .before .before .before .before .before .before .before .args .reach) (widthOf (c .before .before .before .before .before .before .before .before .before .before .before .before .before .before .fetched .given .0 .0)) (c .before .before .before .before .before .before .before .before .before .before .before .before .before .before .before .before .before .before .before .before .before .before .before .loop .cells) (told saysReached (c .before .before .before .before .before .before .before .before .before .reach3 .ensures .0) (c .before .before .before .before .before .before .before .reached3 .given .1 ∙ ap reached.At (c .before .before .before .before .spot13 .given .1))), (c .before .before .before .before .before .before .before .before .before .before .before .before .before .before .before .before .before .before .before .before .before .before .before .loop .inv .0) .p-within)
+
+price-requires-20 : tie.Need-price-requires-20 Inv-loop μ-loop
+price-requires-20 c κs = c .before .before .before .before .before .before .before .before .before .before .before .before .before .before .before .before .before .before .before .before .before .before .before .loop .inv .1 .0
+
+counted-requires-21 : tie.Need-counted-requires-21 Inv-loop μ-loop
+counted-requires-21 c κs = ((found (c .before .before .before .before .before .before .before .before .before .before .before .before .before .before)) .less, ((omega (arith, (c .before .before .before .before .before .before .before .before .before .before .before .before .before .before .before .before .before .before .before .before .before .before .before .before .loop .inv .0) .priced, (c .before .before .before .before .before .before .before .before .before .before .before .before .before .before .before .before .before .before .before .before .before .before .before .before .loop .inv .0) .limit, (c .before .before .before .before .before .before .before .before .before .before .before .before .before .before .before .before .before .before .before .before .before .before .before .before .loop .inv .0) .left-within, (found (c .before .before .before .before .before .before .before .before .before .before .before .before .before .before)) .less)), c .price20 .ensures .1))
+
+loop-less-32 : tie.Need-loop-less-32 Inv-loop μ-loop
+loop-less-32 c = omega (arith, c .counted21 .ensures .1)
+
+loop-again-32 : tie.Need-loop-again-32 Inv-loop μ-loop
+loop-again-32 c = (goes (found (c .before .before .before .before .before .before .before .before .before .before .before .before .before .before .before)) (store-acts (found (c .before .before .before .before .before .before .before .before .before .before .before .before .before .before .before)) (inr (c .before .before .before .before .before .before .before .before .before .before .before .before .before .match3 .keys9))) (told saysReached (c .before .before .before .before .before .before .before .before .before .before .before .reach3 .ensures .0) (c .before .before .before .before .before .before .before .before .before .reached3 .given .1 ∙ ap reached.At (c .before .before .before .before .before .before .spot13 .given .1))) (held-there (kept-whole (found (c .before .before .before .before .before .before .before .before .before .before .before .before .before .before .before)) (widthOf (c .before .before .before .before .before .before .before .before .before .before .before .before .before .before .before .before .fetched .given .0 .0)) (4 * c .before .before .before .before .before .before .spot13 .given .0 .0) (getD (c .before .before .before .before .before .before .before .before .before .before .before .before .before .before .before .before .before .before .before .before .before .before .before .before .before .loop .cells) (c .before .before .before .before .before .before .before .before .before .before .before .before .before .before .before .before .before .before .before .before .before .before .before .before .before .loop .regs .p - 2) 0) ((spot-within (c .before .before .before .before .before .before .before .before .before .before .before .before .before .before .before .before .before .before .before .before .before .before .before .before .before .before .before .args .reach) (widthOf (c .before .before .before .before .before .before .before .before .before .before .before .before .before .before .before .before .fetched .given .0 .0)) (c .before .before .before .before .before .before .before .before .before .before .before .reach3 .ensures .1) (c .before .before .before .before .before .before .before .before .before .reached3 .given .1 ∙ ap reached.At (c .before .before .before .before .before .before .spot13 .given .1))) .0) (c .before .before .set-local2 .ensures (c .before .before .before .before .before .before .before .before .before .before .before .before .before .before .before .before .before .before .before .before .before .before .before .before .before .loop .copies) (c .before .before .before .before .before .before .before .before .before .before .before .before .before .before .before .before .before .before .before .before .before .before .before .before .before .loop .regs .e) (omega (arith, (c .before .before .before .before .before .before .before .before .before .before .before .before .before .before .before .before .before .before .before .before .before .before .before .before .before .loop .inv .0) .e-within)) (c .before .before .before .before .before .before .before .before .before .before .before .before .before .before .before .before .before .before .before .before .before .before .before .before .before .loop .inv .1 .1 .0)))) refl (c .before .price20 .ensures .0) (c .counted21 .ensures .0), (c .before .before .before .before .before .before .before .before .before .before .before .before .before .before .before .before .before .before .before .before .before .before .before .before .before .loop .inv .1 .0, ((kept-whole (found (c .before .before .before .before .before .before .before .before .before .before .before .before .before .before .before)) (widthOf (c .before .before .before .before .before .before .before .before .before .before .before .before .before .before .before .before .fetched .given .0 .0)) (4 * c .before .before .before .before .before .before .spot13 .given .0 .0) (getD (c .before .before .before .before .before .before .before .before .before .before .before .before .before .before .before .before .before .before .before .before .before .before .before .before .before .loop .cells) (c .before .before .before .before .before .before .before .before .before .before .before .before .before .before .before .before .before .before .before .before .before .before .before .before .before .loop .regs .p - 2) 0) ((spot-within (c .before .before .before .before .before .before .before .before .before .before .before .before .before .before .before .before .before .before .before .before .before .before .before .before .before .before .before .args .reach) (widthOf (c .before .before .before .before .before .before .before .before .before .before .before .before .before .before .before .before .fetched .given .0 .0)) (c .before .before .before .before .before .before .before .before .before .before .before .reach3 .ensures .1) (c .before .before .before .before .before .before .before .before .before .reached3 .given .1 ∙ ap reached.At (c .before .before .before .before .before .before .spot13 .given .1))) .0) (c .before .before .set-local2 .ensures (c .before .before .before .before .before .before .before .before .before .before .before .before .before .before .before .before .before .before .before .before .before .before .before .before .before .loop .copies) (c .before .before .before .before .before .before .before .before .before .before .before .before .before .before .before .before .before .before .before .before .before .before .before .before .before .loop .regs .e) (omega (arith, (c .before .before .before .before .before .before .before .before .before .before .before .before .before .before .before .before .before .before .before .before .before .before .before .before .before .loop .inv .0) .e-within)) (c .before .before .before .before .before .before .before .before .before .before .before .before .before .before .before .before .before .before .before .before .before .before .before .before .before .loop .inv .1 .1 .0))) .laid, ap (λ (n : Note). n .lost % 2 ^ 32) ((kept-whole (found (c .before .before .before .before .before .before .before .before .before .before .before .before .before .before .before)) (widthOf (c .before .before .before .before .before .before .before .before .before .before .before .before .before .before .before .before .fetched .given .0 .0)) (4 * c .before .before .before .before .before .before .spot13 .given .0 .0) (getD (c .before .before .before .before .before .before .before .before .before .before .before .before .before .before .before .before .before .before .before .before .before .before .before .before .before .loop .cells) (c .before .before .before .before .before .before .before .before .before .before .before .before .before .before .before .before .before .before .before .before .before .before .before .before .before .loop .regs .p - 2) 0) ((spot-within (c .before .before .before .before .before .before .before .before .before .before .before .before .before .before .before .before .before .before .before .before .before .before .before .before .before .before .before .args .reach) (widthOf (c .before .before .before .before .before .before .before .before .before .before .before .before .before .before .before .before .fetched .given .0 .0)) (c .before .before .before .before .before .before .before .before .before .before .before .reach3 .ensures .1) (c .before .before .before .before .before .before .before .before .before .reached3 .given .1 ∙ ap reached.At (c .before .before .before .before .before .before .spot13 .given .1))) .0) (c .before .before .set-local2 .ensures (c .before .before .before .before .before .before .before .before .before .before .before .before .before .before .before .before .before .before .before .before .before .before .before .before .before .loop .copies) (c .before .before .before .before .before .before .before .before .before .before .before .before .before .before .before .before .before .before .before .before .before .before .before .before .before .loop .regs .e) (omega (arith, (c .before .before .before .before .before .before .before .before .before .before .before .before .before .before .before .before .before .before .before .before .before .before .before .before .before .loop .inv .0) .e-within)) (c .before .before .before .before .before .before .before .before .before .before .before .before .before .before .before .before .before .before .before .before .before .before .before .before .before .loop .inv .1 .1 .0))) .note-is) ∙ (c .before .before .before .before .before .before .before .before .before .before .before .before .before .before .before .before .before .before .before .before .before .before .before .before .before .loop .inv .1 .1 .1))))
+
+enum-known-spot-14 : tie.Need-enum-known-spot-14 Inv-loop μ-loop
+enum-known-spot-14 c = search needs
+
+sub-set-cell-2 : tie.Need-sub-set-cell-2 Inv-loop μ-loop
+sub-set-cell-2 c = omega (arith, view-room (c .before .before .before .before .before .before .before .before .before .before .before .before .before .before .before .before .before .before .before .before .before .before .before .args .reach) (widthOf (c .before .before .before .before .before .before .before .before .before .before .before .before .fetched .given .0 .0)) (c .before .before .before .before .before .before .before .before .before .before .before .before .before .before .before .before .before .before .before .before .before .loop .cells) (told saysReached (c .before .before .before .before .before .before .before .reach3 .ensures .0) (c .before .before .before .before .before .reached3 .given .1 ∙ ap reached.At (c .before .before .spot14 .given .1))), (c .before .before .before .before .before .before .before .before .before .before .before .before .before .before .before .before .before .before .before .before .before .loop .inv .0) .p-within)
+
+mul-set-cell-2 : tie.Need-mul-set-cell-2 Inv-loop μ-loop
+mul-set-cell-2 c = omega (arith, view-room (c .before .before .before .before .before .before .before .before .before .before .before .before .before .before .before .before .before .before .before .before .before .before .before .args .reach) (widthOf (c .before .before .before .before .before .before .before .before .before .before .before .before .fetched .given .0 .0)) (c .before .before .before .before .before .before .before .before .before .before .before .before .before .before .before .before .before .before .before .before .before .loop .cells) (told saysReached (c .before .before .before .before .before .before .before .reach3 .ensures .0) (c .before .before .before .before .before .reached3 .given .1 ∙ ap reached.At (c .before .before .spot14 .given .1))), (c .before .before .before .before .before .before .before .before .before .before .before .before .before .before .before .before .before .before .before .before .before .loop .inv .0) .p-within)
+
+element-copy-out-set-cell-2 : tie.Need-element-copy-out-set-cell-2 Inv-loop μ-loop
+element-copy-out-set-cell-2 c = omega (arith, view-room (c .before .before .before .before .before .before .before .before .before .before .before .before .before .before .before .before .before .before .before .before .before .before .before .args .reach) (widthOf (c .before .before .before .before .before .before .before .before .before .before .before .before .fetched .given .0 .0)) (c .before .before .before .before .before .before .before .before .before .before .before .before .before .before .before .before .before .before .before .before .before .loop .cells) (told saysReached (c .before .before .before .before .before .before .before .reach3 .ensures .0) (c .before .before .before .before .before .reached3 .given .1 ∙ ap reached.At (c .before .before .spot14 .given .1))), (c .before .before .before .before .before .before .before .before .before .before .before .before .before .before .before .before .before .before .before .before .before .loop .inv .0) .p-within)
+
+set-cell-requires-2 : tie.Need-set-cell-requires-2 Inv-loop μ-loop
+set-cell-requires-2 c κs = ((omega (arith, (c .before .before .before .before .before .before .before .before .before .before .before .before .before .before .before .before .before .before .before .before .before .before .loop .inv .0) .e-within)), (spot-within (c .before .before .before .before .before .before .before .before .before .before .before .before .before .before .before .before .before .before .before .before .before .before .before .before .args .reach) (widthOf (c .before .before .before .before .before .before .before .before .before .before .before .before .before .fetched .given .0 .0)) (c .before .before .before .before .before .before .before .before .reach3 .ensures .1) (c .before .before .before .before .before .before .reached3 .given .1 ∙ ap reached.At (c .before .before .before .spot14 .given .1))) .1)
+
+sub-regs-14 : tie.Need-sub-regs-14 Inv-loop μ-loop
+sub-regs-14 c = omega (arith, view-room (c .before .before .before .before .before .before .before .before .before .before .before .before .before .before .before .before .before .before .before .before .before .before .before .before .before .args .reach) (widthOf (c .before .before .before .before .before .before .before .before .before .before .before .before .before .before .fetched .given .0 .0)) (c .before .before .before .before .before .before .before .before .before .before .before .before .before .before .before .before .before .before .before .before .before .before .before .loop .cells) (told saysReached (c .before .before .before .before .before .before .before .before .before .reach3 .ensures .0) (c .before .before .before .before .before .before .before .reached3 .given .1 ∙ ap reached.At (c .before .before .before .before .spot14 .given .1))), (c .before .before .before .before .before .before .before .before .before .before .before .before .before .before .before .before .before .before .before .before .before .before .before .loop .inv .0) .p-within)
+
+price-requires-21 : tie.Need-price-requires-21 Inv-loop μ-loop
+price-requires-21 c κs = c .before .before .before .before .before .before .before .before .before .before .before .before .before .before .before .before .before .before .before .before .before .before .before .loop .inv .1 .0
+
+counted-requires-22 : tie.Need-counted-requires-22 Inv-loop μ-loop
+counted-requires-22 c κs = ((found (c .before .before .before .before .before .before .before .before .before .before .before .before .before .before)) .less, ((omega (arith, (c .before .before .before .before .before .before .before .before .before .before .before .before .before .before .before .before .before .before .before .before .before .before .before .before .loop .inv .0) .priced, (c .before .before .before .before .before .before .before .before .before .before .before .before .before .before .before .before .before .before .before .before .before .before .before .before .loop .inv .0) .limit, (c .before .before .before .before .before .before .before .before .before .before .before .before .before .before .before .before .before .before .before .before .before .before .before .before .loop .inv .0) .left-within, (found (c .before .before .before .before .before .before .before .before .before .before .before .before .before .before)) .less)), c .price21 .ensures .1))
+
+loop-less-33 : tie.Need-loop-less-33 Inv-loop μ-loop
+loop-less-33 c = omega (arith, c .counted22 .ensures .1)
+
+loop-again-33 : tie.Need-loop-again-33 Inv-loop μ-loop
+loop-again-33 c = (goes (found (c .before .before .before .before .before .before .before .before .before .before .before .before .before .before .before)) (store-acts (found (c .before .before .before .before .before .before .before .before .before .before .before .before .before .before .before)) (inr (c .before .before .before .before .before .before .before .before .before .before .before .before .before .match3 .keys9))) (told saysReached (c .before .before .before .before .before .before .before .before .before .before .before .reach3 .ensures .0) (c .before .before .before .before .before .before .before .before .before .reached3 .given .1 ∙ ap reached.At (c .before .before .before .before .before .before .spot14 .given .1))) (held-there (kept-whole (found (c .before .before .before .before .before .before .before .before .before .before .before .before .before .before .before)) (widthOf (c .before .before .before .before .before .before .before .before .before .before .before .before .before .before .before .before .fetched .given .0 .0)) (4 * (localsCount + c .before .before .before .before .before .before .spot14 .given .0 .0)) (getD (c .before .before .before .before .before .before .before .before .before .before .before .before .before .before .before .before .before .before .before .before .before .before .before .before .before .loop .cells) (c .before .before .before .before .before .before .before .before .before .before .before .before .before .before .before .before .before .before .before .before .before .before .before .before .before .loop .regs .p - 2) 0) ((spot-within (c .before .before .before .before .before .before .before .before .before .before .before .before .before .before .before .before .before .before .before .before .before .before .before .before .before .before .before .args .reach) (widthOf (c .before .before .before .before .before .before .before .before .before .before .before .before .before .before .before .before .fetched .given .0 .0)) (c .before .before .before .before .before .before .before .before .before .before .before .reach3 .ensures .1) (c .before .before .before .before .before .before .before .before .before .reached3 .given .1 ∙ ap reached.At (c .before .before .before .before .before .before .spot14 .given .1))) .0) (c .before .before .set-cell2 .ensures (c .before .before .before .before .before .before .before .before .before .before .before .before .before .before .before .before .before .before .before .before .before .before .before .before .before .loop .copies) (c .before .before .before .before .before .before .before .before .before .before .before .before .before .before .before .before .before .before .before .before .before .before .before .before .before .loop .regs .s) (omega (arith, (c .before .before .before .before .before .before .before .before .before .before .before .before .before .before .before .before .before .before .before .before .before .before .before .before .before .loop .inv .0) .s-within)) (c .before .before .before .before .before .before .before .before .before .before .before .before .before .before .before .before .before .before .before .before .before .before .before .before .before .loop .inv .1 .1 .0)))) refl (c .before .price21 .ensures .0) (c .counted22 .ensures .0), (c .before .before .before .before .before .before .before .before .before .before .before .before .before .before .before .before .before .before .before .before .before .before .before .before .before .loop .inv .1 .0, ((kept-whole (found (c .before .before .before .before .before .before .before .before .before .before .before .before .before .before .before)) (widthOf (c .before .before .before .before .before .before .before .before .before .before .before .before .before .before .before .before .fetched .given .0 .0)) (4 * (localsCount + c .before .before .before .before .before .before .spot14 .given .0 .0)) (getD (c .before .before .before .before .before .before .before .before .before .before .before .before .before .before .before .before .before .before .before .before .before .before .before .before .before .loop .cells) (c .before .before .before .before .before .before .before .before .before .before .before .before .before .before .before .before .before .before .before .before .before .before .before .before .before .loop .regs .p - 2) 0) ((spot-within (c .before .before .before .before .before .before .before .before .before .before .before .before .before .before .before .before .before .before .before .before .before .before .before .before .before .before .before .args .reach) (widthOf (c .before .before .before .before .before .before .before .before .before .before .before .before .before .before .before .before .fetched .given .0 .0)) (c .before .before .before .before .before .before .before .before .before .before .before .reach3 .ensures .1) (c .before .before .before .before .before .before .before .before .before .reached3 .given .1 ∙ ap reached.At (c .before .before .before .before .before .before .spot14 .given .1))) .0) (c .before .before .set-cell2 .ensures (c .before .before .before .before .before .before .before .before .before .before .before .before .before .before .before .before .before .before .before .before .before .before .before .before .before .loop .copies) (c .before .before .before .before .before .before .before .before .before .before .before .before .before .before .before .before .before .before .before .before .before .before .before .before .before .loop .regs .s) (omega (arith, (c .before .before .before .before .before .before .before .before .before .before .before .before .before .before .before .before .before .before .before .before .before .before .before .before .before .loop .inv .0) .s-within)) (c .before .before .before .before .before .before .before .before .before .before .before .before .before .before .before .before .before .before .before .before .before .before .before .before .before .loop .inv .1 .1 .0))) .laid, ap (λ (n : Note). n .lost % 2 ^ 32) ((kept-whole (found (c .before .before .before .before .before .before .before .before .before .before .before .before .before .before .before)) (widthOf (c .before .before .before .before .before .before .before .before .before .before .before .before .before .before .before .before .fetched .given .0 .0)) (4 * (localsCount + c .before .before .before .before .before .before .spot14 .given .0 .0)) (getD (c .before .before .before .before .before .before .before .before .before .before .before .before .before .before .before .before .before .before .before .before .before .before .before .before .before .loop .cells) (c .before .before .before .before .before .before .before .before .before .before .before .before .before .before .before .before .before .before .before .before .before .before .before .before .before .loop .regs .p - 2) 0) ((spot-within (c .before .before .before .before .before .before .before .before .before .before .before .before .before .before .before .before .before .before .before .before .before .before .before .before .before .before .before .args .reach) (widthOf (c .before .before .before .before .before .before .before .before .before .before .before .before .before .before .before .before .fetched .given .0 .0)) (c .before .before .before .before .before .before .before .before .before .before .before .reach3 .ensures .1) (c .before .before .before .before .before .before .before .before .before .reached3 .given .1 ∙ ap reached.At (c .before .before .before .before .before .before .spot14 .given .1))) .0) (c .before .before .set-cell2 .ensures (c .before .before .before .before .before .before .before .before .before .before .before .before .before .before .before .before .before .before .before .before .before .before .before .before .before .loop .copies) (c .before .before .before .before .before .before .before .before .before .before .before .before .before .before .before .before .before .before .before .before .before .before .before .before .before .loop .regs .s) (omega (arith, (c .before .before .before .before .before .before .before .before .before .before .before .before .before .before .before .before .before .before .before .before .before .before .before .before .before .loop .inv .0) .s-within)) (c .before .before .before .before .before .before .before .before .before .before .before .before .before .before .before .before .before .before .before .before .before .before .before .before .before .loop .inv .1 .1 .0))) .note-is) ∙ (c .before .before .before .before .before .before .before .before .before .before .before .before .before .before .before .before .before .before .before .before .before .before .before .before .before .loop .inv .1 .1 .1))))
+
+enum-known-spot-15 : tie.Need-enum-known-spot-15 Inv-loop μ-loop
+enum-known-spot-15 c = search needs
+
+sub-write-in-view-2 : tie.Need-sub-write-in-view-2 Inv-loop μ-loop
+sub-write-in-view-2 c = omega (arith, view-room (c .before .before .before .before .before .before .before .before .before .before .before .before .before .before .before .before .before .before .before .before .before .before .before .args .reach) (widthOf (c .before .before .before .before .before .before .before .before .before .before .before .before .fetched .given .0 .0)) (c .before .before .before .before .before .before .before .before .before .before .before .before .before .before .before .before .before .before .before .before .before .loop .cells) (told saysReached (c .before .before .before .before .before .before .before .reach3 .ensures .0) (c .before .before .before .before .before .reached3 .given .1 ∙ ap reached.At (c .before .before .spot15 .given .1))), (c .before .before .before .before .before .before .before .before .before .before .before .before .before .before .before .before .before .before .before .before .before .loop .inv .0) .p-within)
+
+mul-write-in-view-2 : tie.Need-mul-write-in-view-2 Inv-loop μ-loop
+mul-write-in-view-2 c = omega (arith, view-room (c .before .before .before .before .before .before .before .before .before .before .before .before .before .before .before .before .before .before .before .before .before .before .before .args .reach) (widthOf (c .before .before .before .before .before .before .before .before .before .before .before .before .fetched .given .0 .0)) (c .before .before .before .before .before .before .before .before .before .before .before .before .before .before .before .before .before .before .before .before .before .loop .cells) (told saysReached (c .before .before .before .before .before .before .before .reach3 .ensures .0) (c .before .before .before .before .before .reached3 .given .1 ∙ ap reached.At (c .before .before .spot15 .given .1))), (c .before .before .before .before .before .before .before .before .before .before .before .before .before .before .before .before .before .before .before .before .before .loop .inv .0) .p-within)
+
+element-copy-out-write-in-view-2 : tie.Need-element-copy-out-write-in-view-2 Inv-loop μ-loop
+element-copy-out-write-in-view-2 c = omega (arith, view-room (c .before .before .before .before .before .before .before .before .before .before .before .before .before .before .before .before .before .before .before .before .before .before .before .args .reach) (widthOf (c .before .before .before .before .before .before .before .before .before .before .before .before .fetched .given .0 .0)) (c .before .before .before .before .before .before .before .before .before .before .before .before .before .before .before .before .before .before .before .before .before .loop .cells) (told saysReached (c .before .before .before .before .before .before .before .reach3 .ensures .0) (c .before .before .before .before .before .reached3 .given .1 ∙ ap reached.At (c .before .before .spot15 .given .1))), (c .before .before .before .before .before .before .before .before .before .before .before .before .before .before .before .before .before .before .before .before .before .loop .inv .0) .p-within)
+
+write-in-view-requires-2 : tie.Need-write-in-view-requires-2 Inv-loop μ-loop
+write-in-view-requires-2 c κs = ((omega (arith, (c .before .before .before .before .before .before .before .before .before .before .before .before .before .before .before .before .before .before .before .before .before .before .loop .inv .0) .s-within)), ((omega (arith, (c .before .before .before .before .before .before .before .before .before .before .before .before .before .before .before .before .before .before .before .before .before .before .loop .inv .0) .e-within)), (view-room (c .before .before .before .before .before .before .before .before .before .before .before .before .before .before .before .before .before .before .before .before .before .before .before .before .args .reach) (widthOf (c .before .before .before .before .before .before .before .before .before .before .before .before .before .fetched .given .0 .0)) (c .before .before .before .before .before .before .before .before .before .before .before .before .before .before .before .before .before .before .before .before .before .before .loop .cells) (told saysReached (c .before .before .before .before .before .before .before .before .reach3 .ensures .0) (c .before .before .before .before .before .before .reached3 .given .1 ∙ ap reached.At (c .before .before .before .spot15 .given .1)))) .1))
+
+sub-regs-15 : tie.Need-sub-regs-15 Inv-loop μ-loop
+sub-regs-15 c = omega (arith, view-room (c .before .before .before .before .before .before .before .before .before .before .before .before .before .before .before .before .before .before .before .before .before .before .before .before .before .args .reach) (widthOf (c .before .before .before .before .before .before .before .before .before .before .before .before .before .before .fetched .given .0 .0)) (c .before .before .before .before .before .before .before .before .before .before .before .before .before .before .before .before .before .before .before .before .before .before .before .loop .cells) (told saysReached (c .before .before .before .before .before .before .before .before .before .reach3 .ensures .0) (c .before .before .before .before .before .before .before .reached3 .given .1 ∙ ap reached.At (c .before .before .before .before .spot15 .given .1))), (c .before .before .before .before .before .before .before .before .before .before .before .before .before .before .before .before .before .before .before .before .before .before .before .loop .inv .0) .p-within)
+
+price-requires-22 : tie.Need-price-requires-22 Inv-loop μ-loop
+price-requires-22 c κs = c .before .before .before .before .before .before .before .before .before .before .before .before .before .before .before .before .before .before .before .before .before .before .before .loop .inv .1 .0
+
+counted-requires-23 : tie.Need-counted-requires-23 Inv-loop μ-loop
+counted-requires-23 c κs = ((found (c .before .before .before .before .before .before .before .before .before .before .before .before .before .before)) .less, ((omega (arith, (c .before .before .before .before .before .before .before .before .before .before .before .before .before .before .before .before .before .before .before .before .before .before .before .before .loop .inv .0) .priced, (c .before .before .before .before .before .before .before .before .before .before .before .before .before .before .before .before .before .before .before .before .before .before .before .before .loop .inv .0) .limit, (c .before .before .before .before .before .before .before .before .before .before .before .before .before .before .before .before .before .before .before .before .before .before .before .before .loop .inv .0) .left-within, (found (c .before .before .before .before .before .before .before .before .before .before .before .before .before .before)) .less)), c .price22 .ensures .1))
+
+loop-less-34 : tie.Need-loop-less-34 Inv-loop μ-loop
+loop-less-34 c = omega (arith, c .counted23 .ensures .1)
+
+loop-again-34 : tie.Need-loop-again-34 Inv-loop μ-loop
+loop-again-34 c = (goes (found (c .before .before .before .before .before .before .before .before .before .before .before .before .before .before .before)) (store-acts (found (c .before .before .before .before .before .before .before .before .before .before .before .before .before .before .before)) (inr (c .before .before .before .before .before .before .before .before .before .before .before .before .before .match3 .keys9))) (told saysReached (c .before .before .before .before .before .before .before .before .before .before .before .reach3 .ensures .0) (c .before .before .before .before .before .before .before .before .before .reached3 .given .1 ∙ ap reached.At (c .before .before .before .before .before .before .spot15 .given .1))) (held-there (c .before .before .write-in-view2 .ensures (c .before .before .before .before .before .before .before .before .before .before .before .before .before .before .before .before .before .before .before .before .before .before .before .before .before .loop .copies) (c .before .before .before .before .before .before .before .before .before .before .before .before .before .before .before .before .before .before .before .before .before .before .before .before .before .loop .inv .1 .1 .0))) refl (c .before .price22 .ensures .0) (c .counted23 .ensures .0), (c .before .before .before .before .before .before .before .before .before .before .before .before .before .before .before .before .before .before .before .before .before .before .before .before .before .loop .inv .1 .0, ((c .before .before .write-in-view2 .ensures (c .before .before .before .before .before .before .before .before .before .before .before .before .before .before .before .before .before .before .before .before .before .before .before .before .before .loop .copies) (c .before .before .before .before .before .before .before .before .before .before .before .before .before .before .before .before .before .before .before .before .before .before .before .before .before .loop .inv .1 .1 .0)) .laid, ap (λ (n : Note). n .lost % 2 ^ 32) ((c .before .before .write-in-view2 .ensures (c .before .before .before .before .before .before .before .before .before .before .before .before .before .before .before .before .before .before .before .before .before .before .before .before .before .loop .copies) (c .before .before .before .before .before .before .before .before .before .before .before .before .before .before .before .before .before .before .before .before .before .before .before .before .before .loop .inv .1 .1 .0)) .note-is) ∙ (c .before .before .before .before .before .before .before .before .before .before .before .before .before .before .before .before .before .before .before .before .before .before .before .before .before .loop .inv .1 .1 .1))))
+
+can-call-requires : tie.Need-can-call-requires Inv-loop μ-loop
+can-call-requires c κs = search needs
+
+enum-told-16 : tie.Need-enum-told-16 Inv-loop μ-loop
+enum-told-16 c = search needs
 
 enum-told-17 : tie.Need-enum-told-17 Inv-loop μ-loop
 enum-told-17 c = search needs
 
+by-check-requires-5 : tie.Need-by-check-requires-5 Inv-loop μ-loop
+by-check-requires-5 c κs = search needs
+
+loop-less-35 : tie.Need-loop-less-35 Inv-loop μ-loop
+loop-less-35 c = halted-less (c .before .before .before .before .before .before .before .before .before .before .before .before .before .before .before .before .loop .regs) (c .by-check5 .ensures) (ap saysChecked (c .before .enum-told17 .given .1)) ((found (c .before .before .before .before .before .before)) .less)
+
+loop-again-35 : tie.Need-loop-again-35 Inv-loop μ-loop
+loop-again-35 c = (ends (found (c .before .before .before .before .before .before)) (call-acts (found (c .before .before .before .before .before .before)) (c .before .before .before .before .match3 .keys10)) (told saysChecked (c .before .before .before .can-call .ensures) (c .before .enum-told17 .given .1)) (c .before .before .before .can-call .ensures) (c .by-check5 .ensures), (c .before .before .before .before .before .before .before .before .before .before .before .before .before .before .before .before .loop .inv .1))
+
+mul-returns-4 : tie.Need-mul-returns-4 Inv-loop μ-loop
+mul-returns-4 c = omega (arith, call-room (told saysChecked (c .before .before .can-call .ensures) (c .enum-told16 .given .1)))
+
+element-write-returns-3 : tie.Need-element-write-returns-3 Inv-loop μ-loop
+element-write-returns-3 c = omega (arith, call-room (told saysChecked (c .before .before .can-call .ensures) (c .enum-told16 .given .1)))
+
+called-requires-2 : tie.Need-called-requires-2 Inv-loop μ-loop
+called-requires-2 c κs = omega (arith, call-room (told saysChecked (c .before .before .before .before .can-call .ensures) (c .before .before .enum-told16 .given .1)))
+
+add-regs-8 : tie.Need-add-regs-8 Inv-loop μ-loop
+add-regs-8 c = omega (arith, call-room (told saysChecked (c .before .before .before .before .before .can-call .ensures) (c .before .before .before .enum-told16 .given .1)))
+
+add-regs-9 : tie.Need-add-regs-9 Inv-loop μ-loop
+add-regs-9 c = omega (arith, call-room (told saysChecked (c .before .before .before .before .before .can-call .ensures) (c .before .before .before .enum-told16 .given .1)))
+
+price-requires-23 : tie.Need-price-requires-23 Inv-loop μ-loop
+price-requires-23 c κs = c .before .before .before .before .before .before .before .before .before .before .before .before .before .before .before .before .before .before .loop .inv .1 .0
+
+counted-requires-24 : tie.Need-counted-requires-24 Inv-loop μ-loop
+counted-requires-24 c κs = ((found (c .before .before .before .before .before .before .before .before .before)) .less, ((omega (arith, (c .before .before .before .before .before .before .before .before .before .before .before .before .before .before .before .before .before .before .before .loop .inv .0) .priced, (c .before .before .before .before .before .before .before .before .before .before .before .before .before .before .before .before .before .before .before .loop .inv .0) .limit, (c .before .before .before .before .before .before .before .before .before .before .before .before .before .before .before .before .before .before .before .loop .inv .0) .left-within, (found (c .before .before .before .before .before .before .before .before .before)) .less)), c .price23 .ensures .1))
+
+loop-less-36 : tie.Need-loop-less-36 Inv-loop μ-loop
+loop-less-36 c = omega (arith, c .counted24 .ensures .1)
+
+loop-again-36 : tie.Need-loop-again-36 Inv-loop μ-loop
+loop-again-36 c = (goes (found (c .before .before .before .before .before .before .before .before .before .before)) (call-acts (found (c .before .before .before .before .before .before .before .before .before .before)) (c .before .before .before .before .before .before .before .before .match3 .keys10)) (told saysChecked (c .before .before .before .before .before .before .before .can-call .ensures) (c .before .before .before .before .before .enum-told16 .given .1)) (held-there (c .before .before .called2 .ensures (c .before .before .before .before .before .before .before .before .before .before .before .before .before .before .before .before .before .before .before .before .loop .inv .1 .1 .0))) refl (c .before .price23 .ensures .0) (c .counted24 .ensures .0), (c .before .before .before .before .before .before .before .before .before .before .before .before .before .before .before .before .before .before .before .before .loop .inv .1 .0, ((c .before .before .called2 .ensures (c .before .before .before .before .before .before .before .before .before .before .before .before .before .before .before .before .before .before .before .before .loop .inv .1 .1 .0)) .laid, ap (λ (n : Note). n .lost % 2 ^ 32) ((c .before .before .called2 .ensures (c .before .before .before .before .before .before .before .before .before .before .before .before .before .before .before .before .before .before .before .before .loop .inv .1 .1 .0)) .note-is) ∙ (c .before .before .before .before .before .before .before .before .before .before .before .before .before .before .before .before .before .before .before .before .loop .inv .1 .1 .1))))
+
+can-call-requires-2 : tie.Need-can-call-requires-2 Inv-loop μ-loop
+can-call-requires-2 c κs = search needs
+
 enum-told-18 : tie.Need-enum-told-18 Inv-loop μ-loop
 enum-told-18 c = search needs
-
-by-check-requires-6 : tie.Need-by-check-requires-6 Inv-loop μ-loop
-by-check-requires-6 c κs = search needs
-
-loop-less-31 : tie.Need-loop-less-31 Inv-loop μ-loop
-loop-less-31 c = halted-less (c .before .before .before .before .before .before .before .before .before .before .before .before .before .before .before .before .loop .regs) (c .by-check6 .ensures) (ap saysChecked (c .before .enum-told18 .given .1)) ((found (c .before .before .before .before .before .before)) .less)
-
-loop-again-31 : tie.Need-loop-again-31 Inv-loop μ-loop
-loop-again-31 c = (ends (found (c .before .before .before .before .before .before)) (call-top-acts (found (c .before .before .before .before .before .before)) (c .before .before .before .before .match3 .keys10)) (told saysChecked (c .before .before .before .can-call2 .ensures) (c .before .enum-told18 .given .1)) (c .before .before .before .can-call2 .ensures) (c .by-check6 .ensures), (c .before .before .before .before .before .before .before .before .before .before .before .before .before .before .before .before .loop .inv .1))
-
-sub-to-2 : tie.Need-sub-to-2 Inv-loop μ-loop
-sub-to-2 c = omega (arith, call-room (told saysChecked (c .before .before .can-call2 .ensures) (c .enum-told17 .given .1)))
-
-mul-to-2 : tie.Need-mul-to-2 Inv-loop μ-loop
-mul-to-2 c = omega (arith, call-room (told saysChecked (c .before .before .can-call2 .ensures) (c .enum-told17 .given .1)))
-
-element-copy-out-to-2 : tie.Need-element-copy-out-to-2 Inv-loop μ-loop
-element-copy-out-to-2 c = omega (arith, call-room (told saysChecked (c .before .before .can-call2 .ensures) (c .enum-told17 .given .1)))
-
-mul-returns-5 : tie.Need-mul-returns-5 Inv-loop μ-loop
-mul-returns-5 c = omega (arith, call-room (told saysChecked (c .before .before .before .can-call2 .ensures) (c .before .enum-told17 .given .1)))
-
-element-write-returns-4 : tie.Need-element-write-returns-4 Inv-loop μ-loop
-element-write-returns-4 c = omega (arith, call-room (told saysChecked (c .before .before .before .can-call2 .ensures) (c .before .enum-told17 .given .1)))
-
-called-requires-3 : tie.Need-called-requires-3 Inv-loop μ-loop
-called-requires-3 c κs = omega (arith, call-room (told saysChecked (c .before .before .before .before .before .can-call2 .ensures) (c .before .before .before .enum-told17 .given .1)))
-
-sub-regs-11 : tie.Need-sub-regs-11 Inv-loop μ-loop
-sub-regs-11 c = omega (arith, call-room (told saysChecked (c .before .before .before .before .before .before .can-call2 .ensures) (c .before .before .before .before .enum-told17 .given .1)))
-
-add-regs-10 : tie.Need-add-regs-10 Inv-loop μ-loop
-add-regs-10 c = omega (arith, call-room (told saysChecked (c .before .before .before .before .before .before .can-call2 .ensures) (c .before .before .before .before .enum-told17 .given .1)))
-
-add-regs-11 : tie.Need-add-regs-11 Inv-loop μ-loop
-add-regs-11 c = omega (arith, call-room (told saysChecked (c .before .before .before .before .before .before .can-call2 .ensures) (c .before .before .before .before .enum-told17 .given .1)))
-
-price-requires-19 : tie.Need-price-requires-19 Inv-loop μ-loop
-price-requires-19 c κs = c .before .before .before .before .before .before .before .before .before .before .before .before .before .before .before .before .before .before .before .loop .inv .1 .0
-
-counted-requires-20 : tie.Need-counted-requires-20 Inv-loop μ-loop
-counted-requires-20 c κs = ((found (c .before .before .before .before .before .before .before .before .before .before)) .less, ((omega (arith, (c .before .before .before .before .before .before .before .before .before .before .before .before .before .before .before .before .before .before .before .before .loop .inv .0) .priced, (c .before .before .before .before .before .before .before .before .before .before .before .before .before .before .before .before .before .before .before .before .loop .inv .0) .limit, (c .before .before .before .before .before .before .before .before .before .before .before .before .before .before .before .before .before .before .before .before .loop .inv .0) .left-within, (found (c .before .before .before .before .before .before .before .before .before .before)) .less)), c .price19 .ensures .1))
-
-loop-less-32 : tie.Need-loop-less-32 Inv-loop μ-loop
-loop-less-32 c = omega (arith, c .counted20 .ensures .1)
-
-loop-again-32 : tie.Need-loop-again-32 Inv-loop μ-loop
-loop-again-32 c = (goes (found (c .before .before .before .before .before .before .before .before .before .before .before)) (call-top-acts (found (c .before .before .before .before .before .before .before .before .before .before .before)) (c .before .before .before .before .before .before .before .before .before .match3 .keys10)) (told saysChecked (c .before .before .before .before .before .before .before .before .can-call2 .ensures) (c .before .before .before .before .before .before .enum-told17 .given .1)) (held-there (c .before .before .called3 .ensures (c .before .before .before .before .before .before .before .before .before .before .before .before .before .before .before .before .before .before .before .before .before .loop .inv .1 .1))) refl (c .before .price19 .ensures .0) (c .counted20 .ensures .0), (c .before .before .before .before .before .before .before .before .before .before .before .before .before .before .before .before .before .before .before .before .before .loop .inv .1 .0, (c .before .before .called3 .ensures (c .before .before .before .before .before .before .before .before .before .before .before .before .before .before .before .before .before .before .before .before .before .loop .inv .1 .1)) .laid))
-
-can-exit-requires : tie.Need-can-exit-requires Inv-loop μ-loop
-can-exit-requires c κs = search needs
 
 enum-told-19 : tie.Need-enum-told-19 Inv-loop μ-loop
 enum-told-19 c = search needs
 
+by-check-requires-6 : tie.Need-by-check-requires-6 Inv-loop μ-loop
+by-check-requires-6 c κs = search needs
+
+loop-less-37 : tie.Need-loop-less-37 Inv-loop μ-loop
+loop-less-37 c = halted-less (c .before .before .before .before .before .before .before .before .before .before .before .before .before .before .before .before .loop .regs) (c .by-check6 .ensures) (ap saysChecked (c .before .enum-told19 .given .1)) ((found (c .before .before .before .before .before .before)) .less)
+
+loop-again-37 : tie.Need-loop-again-37 Inv-loop μ-loop
+loop-again-37 c = (ends (found (c .before .before .before .before .before .before)) (call-top-acts (found (c .before .before .before .before .before .before)) (c .before .before .before .before .match3 .keys11)) (told saysChecked (c .before .before .before .can-call2 .ensures) (c .before .enum-told19 .given .1)) (c .before .before .before .can-call2 .ensures) (c .by-check6 .ensures), (c .before .before .before .before .before .before .before .before .before .before .before .before .before .before .before .before .loop .inv .1))
+
+sub-to-2 : tie.Need-sub-to-2 Inv-loop μ-loop
+sub-to-2 c = omega (arith, call-room (told saysChecked (c .before .before .can-call2 .ensures) (c .enum-told18 .given .1)))
+
+mul-to-2 : tie.Need-mul-to-2 Inv-loop μ-loop
+mul-to-2 c = omega (arith, call-room (told saysChecked (c .before .before .can-call2 .ensures) (c .enum-told18 .given .1)))
+
+element-copy-out-to-2 : tie.Need-element-copy-out-to-2 Inv-loop μ-loop
+element-copy-out-to-2 c = omega (arith, call-room (told saysChecked (c .before .before .can-call2 .ensures) (c .enum-told18 .given .1)))
+
+mul-returns-5 : tie.Need-mul-returns-5 Inv-loop μ-loop
+mul-returns-5 c = omega (arith, call-room (told saysChecked (c .before .before .before .can-call2 .ensures) (c .before .enum-told18 .given .1)))
+
+element-write-returns-4 : tie.Need-element-write-returns-4 Inv-loop μ-loop
+element-write-returns-4 c = omega (arith, call-room (told saysChecked (c .before .before .before .can-call2 .ensures) (c .before .enum-told18 .given .1)))
+
+called-requires-3 : tie.Need-called-requires-3 Inv-loop μ-loop
+called-requires-3 c κs = omega (arith, call-room (told saysChecked (c .before .before .before .before .before .can-call2 .ensures) (c .before .before .before .enum-told18 .given .1)))
+
+sub-regs-16 : tie.Need-sub-regs-16 Inv-loop μ-loop
+sub-regs-16 c = omega (arith, call-room (told saysChecked (c .before .before .before .before .before .before .can-call2 .ensures) (c .before .before .before .before .enum-told18 .given .1)))
+
+add-regs-10 : tie.Need-add-regs-10 Inv-loop μ-loop
+add-regs-10 c = omega (arith, call-room (told saysChecked (c .before .before .before .before .before .before .can-call2 .ensures) (c .before .before .before .before .enum-told18 .given .1)))
+
+add-regs-11 : tie.Need-add-regs-11 Inv-loop μ-loop
+add-regs-11 c = omega (arith, call-room (told saysChecked (c .before .before .before .before .before .before .can-call2 .ensures) (c .before .before .before .before .enum-told18 .given .1)))
+
+price-requires-24 : tie.Need-price-requires-24 Inv-loop μ-loop
+price-requires-24 c κs = c .before .before .before .before .before .before .before .before .before .before .before .before .before .before .before .before .before .before .before .loop .inv .1 .0
+
+counted-requires-25 : tie.Need-counted-requires-25 Inv-loop μ-loop
+counted-requires-25 c κs = ((found (c .before .before .before .before .before .before .before .before .before .before)) .less, ((omega (arith, (c .before .before .before .before .before .before .before .before .before .before .before .before .before .before .before .before .before .before .before .before .loop .inv .0) .priced, (c .before .before .before .before .before .before .before .before .before .before .before .before .before .before .before .before .before .before .before .before .loop .inv .0) .limit, (c .before .before .before .before .before .before .before .before .before .before .before .before .before .before .before .before .before .before .before .before .loop .inv .0) .left-within, (found (c .before .before .before .before .before .before .before .before .before .before)) .less)), c .price24 .ensures .1))
+
+loop-less-38 : tie.Need-loop-less-38 Inv-loop μ-loop
+loop-less-38 c = omega (arith, c .counted25 .ensures .1)
+
+loop-again-38 : tie.Need-loop-again-38 Inv-loop μ-loop
+loop-again-38 c = (goes (found (c .before .before .before .before .before .before .before .before .before .before .before)) (call-top-acts (found (c .before .before .before .before .before .before .before .before .before .before .before)) (c .before .before .before .before .before .before .before .before .before .match3 .keys11)) (told saysChecked (c .before .before .before .before .before .before .before .before .can-call2 .ensures) (c .before .before .before .before .before .before .enum-told18 .given .1)) (held-there (c .before .before .called3 .ensures (c .before .before .before .before .before .before .before .before .before .before .before .before .before .before .before .before .before .before .before .before .before .loop .inv .1 .1 .0))) refl (c .before .price24 .ensures .0) (c .counted25 .ensures .0), (c .before .before .before .before .before .before .before .before .before .before .before .before .before .before .before .before .before .before .before .before .before .loop .inv .1 .0, ((c .before .before .called3 .ensures (c .before .before .before .before .before .before .before .before .before .before .before .before .before .before .before .before .before .before .before .before .before .loop .inv .1 .1 .0)) .laid, ap (λ (n : Note). n .lost % 2 ^ 32) ((c .before .before .called3 .ensures (c .before .before .before .before .before .before .before .before .before .before .before .before .before .before .before .before .before .before .before .before .before .loop .inv .1 .1 .0)) .note-is) ∙ (c .before .before .before .before .before .before .before .before .before .before .before .before .before .before .before .before .before .before .before .before .before .loop .inv .1 .1 .1))))
+
+can-exit-requires : tie.Need-can-exit-requires Inv-loop μ-loop
+can-exit-requires c κs = search needs
+
 enum-told-20 : tie.Need-enum-told-20 Inv-loop μ-loop
 enum-told-20 c = search needs
+
+enum-told-21 : tie.Need-enum-told-21 Inv-loop μ-loop
+enum-told-21 c = search needs
 
 by-exit-requires : tie.Need-by-exit-requires Inv-loop μ-loop
 by-exit-requires c κs = search needs
 
-loop-less-33 : tie.Need-loop-less-33 Inv-loop μ-loop
-loop-less-33 c = halted-less (c .before .before .before .before .before .before .before .before .before .before .before .before .before .before .before .before .loop .regs) (c .by-exit .ensures) (ap saysExit (c .before .enum-told20 .given .1)) ((found (c .before .before .before .before .before .before)) .less)
+loop-less-39 : tie.Need-loop-less-39 Inv-loop μ-loop
+loop-less-39 c = halted-less (c .before .before .before .before .before .before .before .before .before .before .before .before .before .before .before .before .loop .regs) (c .by-exit .ensures) (ap saysExit (c .before .enum-told21 .given .1)) ((found (c .before .before .before .before .before .before)) .less)
 
-loop-again-33 : tie.Need-loop-again-33 Inv-loop μ-loop
-loop-again-33 c = (ends (found (c .before .before .before .before .before .before)) (exit-acts (found (c .before .before .before .before .before .before)) (c .before .before .before .before .match3 .keys11) refl refl refl) (told saysExit (c .before .before .before .can-exit .ensures) (c .before .enum-told20 .given .1)) (c .before .before .before .can-exit .ensures) (c .by-exit .ensures), (c .before .before .before .before .before .before .before .before .before .before .before .before .before .before .before .before .loop .inv .1))
+loop-again-39 : tie.Need-loop-again-39 Inv-loop μ-loop
+loop-again-39 c = (ends (found (c .before .before .before .before .before .before)) (exit-acts (found (c .before .before .before .before .before .before)) (c .before .before .before .before .match3 .keys12) refl refl refl) (told saysExit (c .before .before .before .can-exit .ensures) (c .before .enum-told21 .given .1)) (c .before .before .before .can-exit .ensures) (c .by-exit .ensures), (c .before .before .before .before .before .before .before .before .before .before .before .before .before .before .before .before .loop .inv .1))
 
-sub-regs-12 : tie.Need-sub-regs-12 Inv-loop μ-loop
-sub-regs-12 c = omega (arith, exit-room (told saysExit (c .before .before .can-exit .ensures) (c .enum-told19 .given .1)))
+sub-regs-17 : tie.Need-sub-regs-17 Inv-loop μ-loop
+sub-regs-17 c = omega (arith, exit-room (told saysExit (c .before .before .can-exit .ensures) (c .enum-told20 .given .1)))
 
 sub-e-after-drop : tie.Need-sub-e-after-drop Inv-loop μ-loop
-sub-e-after-drop c = omega (arith, exit-room (told saysExit (c .before .before .can-exit .ensures) (c .enum-told19 .given .1)))
+sub-e-after-drop c = omega (arith, exit-room (told saysExit (c .before .before .can-exit .ensures) (c .enum-told20 .given .1)))
 
 copy-of-s-requires-3 : tie.Need-copy-of-s-requires-3 Inv-loop μ-loop
 copy-of-s-requires-3 c κs = omega (arith, (c .before .before .before .before .before .before .before .before .before .before .before .before .before .before .before .before .loop .inv .0) .e-within)
@@ -916,68 +1099,68 @@ copy-of-r-requires-3 c κs = omega (arith, (c .before .before .before .before .b
 return-address-requires : tie.Need-return-address-requires Inv-loop μ-loop
 return-address-requires c κs = omega (arith, (c .before .before .before .before .before .before .before .before .before .before .before .before .before .before .before .before .before .before .before .before .before .loop .inv .0) .s-within)
 
-price-requires-20 : tie.Need-price-requires-20 Inv-loop μ-loop
-price-requires-20 c κs = c .before .before .before .before .before .before .before .before .before .before .before .before .before .before .before .before .before .before .before .before .before .before .loop .inv .1 .0
+price-requires-25 : tie.Need-price-requires-25 Inv-loop μ-loop
+price-requires-25 c κs = c .before .before .before .before .before .before .before .before .before .before .before .before .before .before .before .before .before .before .before .before .before .before .loop .inv .1 .0
 
-counted-requires-21 : tie.Need-counted-requires-21 Inv-loop μ-loop
-counted-requires-21 c κs = ((found (c .before .before .before .before .before .before .before .before .before .before .before .before .before)) .less, ((omega (arith, (c .before .before .before .before .before .before .before .before .before .before .before .before .before .before .before .before .before .before .before .before .before .before .before .loop .inv .0) .priced, (c .before .before .before .before .before .before .before .before .before .before .before .before .before .before .before .before .before .before .before .before .before .before .before .loop .inv .0) .limit, (c .before .before .before .before .before .before .before .before .before .before .before .before .before .before .before .before .before .before .before .before .before .before .before .loop .inv .0) .left-within, (found (c .before .before .before .before .before .before .before .before .before .before .before .before .before)) .less)), c .price20 .ensures .1))
+counted-requires-26 : tie.Need-counted-requires-26 Inv-loop μ-loop
+counted-requires-26 c κs = ((found (c .before .before .before .before .before .before .before .before .before .before .before .before .before)) .less, ((omega (arith, (c .before .before .before .before .before .before .before .before .before .before .before .before .before .before .before .before .before .before .before .before .before .before .before .loop .inv .0) .priced, (c .before .before .before .before .before .before .before .before .before .before .before .before .before .before .before .before .before .before .before .before .before .before .before .loop .inv .0) .limit, (c .before .before .before .before .before .before .before .before .before .before .before .before .before .before .before .before .before .before .before .before .before .before .before .loop .inv .0) .left-within, (found (c .before .before .before .before .before .before .before .before .before .before .before .before .before)) .less)), c .price25 .ensures .1))
 
-loop-less-34 : tie.Need-loop-less-34 Inv-loop μ-loop
-loop-less-34 c = omega (arith, c .counted21 .ensures .1)
+loop-less-40 : tie.Need-loop-less-40 Inv-loop μ-loop
+loop-less-40 c = omega (arith, c .counted26 .ensures .1)
 
-loop-again-34 : tie.Need-loop-again-34 Inv-loop μ-loop
-loop-again-34 c = (goes (found (c .before .before .before .before .before .before .before .before .before .before .before .before .before .before)) (exit-acts (found (c .before .before .before .before .before .before .before .before .before .before .before .before .before .before)) (c .before .before .before .before .before .before .before .before .before .before .before .before .match3 .keys11) (c .before .before .before .before .before .before .e-after-drop .ensures ∙ ap (eAfterDropOf (c .before .before .before .before .before .before .before .before .before .before .before .before .before .before .before .before .before .before .before .before .before .before .before .before .loop .regs .s - 1) (c .before .before .before .before .before .before .before .before .before .before .before .before .before .before .before .before .before .before .before .before .before .before .before .before .loop .regs .e)) (c .before .before .before .before .before .before .before .copy-of-s3 .ensures (c .before .before .before .before .before .before .before .before .before .before .before .before .before .before .before .before .before .before .before .before .before .before .before .before .loop .rows))) (c .before .before .before .before .copy-of-r3 .ensures (c .before .before .before .before .before .before .before .before .before .before .before .before .before .before .before .before .before .before .before .before .before .before .before .before .loop .rows)) (c .before .before .return-address .ensures (c .before .before .before .before .before .before .before .before .before .before .before .before .before .before .before .before .before .before .before .before .before .before .before .before .loop .copies))) (told saysExit (c .before .before .before .before .before .before .before .before .before .before .before .can-exit .ensures) (c .before .before .before .before .before .before .before .before .before .enum-told19 .given .1)) refl refl (c .before .price20 .ensures .0) (c .counted21 .ensures .0), (c .before .before .before .before .before .before .before .before .before .before .before .before .before .before .before .before .before .before .before .before .before .before .before .before .loop .inv .1))
+loop-again-40 : tie.Need-loop-again-40 Inv-loop μ-loop
+loop-again-40 c = (goes (found (c .before .before .before .before .before .before .before .before .before .before .before .before .before .before)) (exit-acts (found (c .before .before .before .before .before .before .before .before .before .before .before .before .before .before)) (c .before .before .before .before .before .before .before .before .before .before .before .before .match3 .keys12) (c .before .before .before .before .before .before .e-after-drop .ensures ∙ ap (eAfterDropOf (c .before .before .before .before .before .before .before .before .before .before .before .before .before .before .before .before .before .before .before .before .before .before .before .before .loop .regs .s - 1) (c .before .before .before .before .before .before .before .before .before .before .before .before .before .before .before .before .before .before .before .before .before .before .before .before .loop .regs .e)) (c .before .before .before .before .before .before .before .copy-of-s3 .ensures (c .before .before .before .before .before .before .before .before .before .before .before .before .before .before .before .before .before .before .before .before .before .before .before .before .loop .rows))) (c .before .before .before .before .copy-of-r3 .ensures (c .before .before .before .before .before .before .before .before .before .before .before .before .before .before .before .before .before .before .before .before .before .before .before .before .loop .rows)) (c .before .before .return-address .ensures (c .before .before .before .before .before .before .before .before .before .before .before .before .before .before .before .before .before .before .before .before .before .before .before .before .loop .copies))) (told saysExit (c .before .before .before .before .before .before .before .before .before .before .before .can-exit .ensures) (c .before .before .before .before .before .before .before .before .before .enum-told20 .given .1)) refl refl (c .before .price25 .ensures .0) (c .counted26 .ensures .0), (c .before .before .before .before .before .before .before .before .before .before .before .before .before .before .before .before .before .before .before .before .before .before .before .before .loop .inv .1))
 
-price-requires-21 : tie.Need-price-requires-21 Inv-loop μ-loop
-price-requires-21 c κs = c .before .before .before .before .before .before .before .before .before .before .before .before .loop .inv .1 .0
+price-requires-26 : tie.Need-price-requires-26 Inv-loop μ-loop
+price-requires-26 c κs = c .before .before .before .before .before .before .before .before .before .before .before .before .loop .inv .1 .0
 
-counted-requires-22 : tie.Need-counted-requires-22 Inv-loop μ-loop
-counted-requires-22 c κs = ((found (c .before .before .before)) .less, ((omega (arith, (c .before .before .before .before .before .before .before .before .before .before .before .before .before .loop .inv .0) .priced, (c .before .before .before .before .before .before .before .before .before .before .before .before .before .loop .inv .0) .limit, (c .before .before .before .before .before .before .before .before .before .before .before .before .before .loop .inv .0) .left-within, (found (c .before .before .before)) .less)), c .price21 .ensures .1))
+counted-requires-27 : tie.Need-counted-requires-27 Inv-loop μ-loop
+counted-requires-27 c κs = ((found (c .before .before .before)) .less, ((omega (arith, (c .before .before .before .before .before .before .before .before .before .before .before .before .before .loop .inv .0) .priced, (c .before .before .before .before .before .before .before .before .before .before .before .before .before .loop .inv .0) .limit, (c .before .before .before .before .before .before .before .before .before .before .before .before .before .loop .inv .0) .left-within, (found (c .before .before .before)) .less)), c .price26 .ensures .1))
 
 paused-requires : tie.Need-paused-requires Inv-loop μ-loop
 paused-requires c κs = search needs
 
-loop-less-35 : tie.Need-loop-less-35 Inv-loop μ-loop
-loop-less-35 c = omega (arith, c .before .counted22 .ensures .1, c .paused .ensures .1)
+loop-less-41 : tie.Need-loop-less-41 Inv-loop μ-loop
+loop-less-41 c = omega (arith, c .before .counted27 .ensures .1, c .paused .ensures .1)
 
-loop-again-35 : tie.Need-loop-again-35 Inv-loop μ-loop
-loop-again-35 c = (paused (found (c .before .before .before .before .before)) (pause-is (found (c .before .before .before .before .before)) (c .before .before .before .match3 .keys12)) refl (c .before .before .price21 .ensures .0) (c .before .before .before .match3 .keys12) (c .before .counted22 .ensures .0) (c .paused .ensures .0), (c .before .before .before .before .before .before .before .before .before .before .before .before .before .before .before .loop .inv .1))
+loop-again-41 : tie.Need-loop-again-41 Inv-loop μ-loop
+loop-again-41 c = (paused (found (c .before .before .before .before .before)) (pause-is (found (c .before .before .before .before .before)) (c .before .before .before .match3 .keys13)) refl (c .before .before .price26 .ensures .0) (c .before .before .before .match3 .keys13) (c .before .counted27 .ensures .0) (c .paused .ensures .0), (c .before .before .before .before .before .before .before .before .before .before .before .before .before .before .before .loop .inv .1))
 
 on-cells-requires : tie.Need-on-cells-requires Inv-loop μ-loop
-on-cells-requires c κs = ((c .before .before .before .before .before .before .before .before .before .before .before .before .before .loop .inv .0) .p-within, (omega (arith, c .before .before .if3 .left), (record { not07 = (c .before .match3 .rest .0 .0 .0 .0 .0 .0 .0 .0 .0 .0 .0 .1); not08 = (c .before .match3 .rest .0 .0 .0 .0 .0 .0 .0 .0 .0 .0 .1); not09 = (c .before .match3 .rest .0 .0 .0 .0 .0 .0 .0 .0 .0 .1); not0B = (c .before .match3 .rest .0 .0 .0 .0 .0 .0 .0 .0 .1); not0C = (c .before .match3 .rest .0 .0 .0 .0 .0 .0 .0 .1); not0D = (c .before .match3 .rest .0 .0 .0 .0 .0 .0 .1); not2D = (λ h. c .before .match3 .rest .0 .0 .0 .0 .0 .1 (inl h)); not2E = (λ h. c .before .match3 .rest .0 .0 .0 .0 .1 (inl h)); not2F = (λ h. c .before .match3 .rest .0 .0 .0 .0 .0 .1 (inr (inl h))); not30 = (λ h. c .before .match3 .rest .0 .0 .0 .0 .1 (inr (inl h))); not31 = (λ h. c .before .match3 .rest .0 .0 .0 .0 .0 .1 (inr (inr (h)))); not32 = (λ h. c .before .match3 .rest .0 .0 .0 .0 .1 (inr (inr (h)))); not38 = (c .before .match3 .rest .0 .0 .0 .1); not39 = (c .before .match3 .rest .0 .0 .1); not3D = (c .before .match3 .rest .0 .1); not3E = (c .before .match3 .rest .1) })))
+on-cells-requires c κs = ((c .before .before .before .before .before .before .before .before .before .before .before .before .before .loop .inv .0) .p-within, (omega (arith, c .before .before .if3 .left), (record { not07 = (c .before .match3 .rest .0 .0 .0 .0 .0 .0 .0 .0 .0 .0 .0 .0 .1); not08 = (c .before .match3 .rest .0 .0 .0 .0 .0 .0 .0 .0 .0 .0 .0 .1); not09 = (c .before .match3 .rest .0 .0 .0 .0 .0 .0 .0 .0 .0 .0 .1); not0B = (c .before .match3 .rest .0 .0 .0 .0 .0 .0 .0 .0 .0 .1); not0C = (c .before .match3 .rest .0 .0 .0 .0 .0 .0 .0 .0 .1); not0D = (c .before .match3 .rest .0 .0 .0 .0 .0 .0 .0 .1); not2D = (λ h. c .before .match3 .rest .0 .0 .0 .0 .0 .0 .1 (inl h)); not2E = (c .before .match3 .rest .0 .0 .0 .0 .0 .1); not2F = (λ h. c .before .match3 .rest .0 .0 .0 .0 .0 .0 .1 (inr (inl h))); not30 = (λ h. c .before .match3 .rest .0 .0 .0 .0 .1 (inl h)); not31 = (λ h. c .before .match3 .rest .0 .0 .0 .0 .0 .0 .1 (inr (inr (h)))); not32 = (λ h. c .before .match3 .rest .0 .0 .0 .0 .1 (inr (h))); not38 = (c .before .match3 .rest .0 .0 .0 .1); not39 = (c .before .match3 .rest .0 .0 .1); not3D = (c .before .match3 .rest .0 .1); not3E = (c .before .match3 .rest .1) })))
 
 enum-known-done-2 : tie.Need-enum-known-done-2 Inv-loop μ-loop
 enum-known-done-2 c = search needs
 
-enum-told-21 : tie.Need-enum-told-21 Inv-loop μ-loop
-enum-told-21 c = search needs
+enum-told-22 : tie.Need-enum-told-22 Inv-loop μ-loop
+enum-told-22 c = search needs
 
 by-done-requires-2 : tie.Need-by-done-requires-2 Inv-loop μ-loop
 by-done-requires-2 c κs = search needs
 
-loop-less-36 : tie.Need-loop-less-36 Inv-loop μ-loop
-loop-less-36 c = halted-less (c .before .before .before .before .before .before .before .before .before .before .before .before .before .before .before .before .before .loop .regs) (c .by-done2 .ensures) (ap saysDone (c .before .enum-told21 .given .1)) ((found (c .before .before .before .before .before .before .before)) .less)
+loop-less-42 : tie.Need-loop-less-42 Inv-loop μ-loop
+loop-less-42 c = halted-less (c .before .before .before .before .before .before .before .before .before .before .before .before .before .before .before .before .before .loop .regs) (c .by-done2 .ensures) (ap saysDone (c .before .enum-told22 .given .1)) ((found (c .before .before .before .before .before .before .before)) .less)
 
-loop-again-36 : tie.Need-loop-again-36 Inv-loop μ-loop
-loop-again-36 c = (cells-end (found (c .before .before .before .before .before .before .before)) (c .before .before .before .before .before .match3 .rest .0 .0 .0 .0 .0 .0 .1) (c .before .before .before .before .before .match3 .rest .1) (c .before .before .before .on-cells .ensures) (ap saysDone (c .before .enum-told21 .given .1)) (c .by-done2 .ensures), (c .before .before .before .before .before .before .before .before .before .before .before .before .before .before .before .before .before .loop .inv .1))
+loop-again-42 : tie.Need-loop-again-42 Inv-loop μ-loop
+loop-again-42 c = (cells-end (found (c .before .before .before .before .before .before .before)) (c .before .before .before .before .before .match3 .rest .0 .0 .0 .0 .0 .0 .0 .1) (c .before .before .before .before .before .match3 .rest .1) (c .before .before .before .on-cells .ensures) (ap saysDone (c .before .enum-told22 .given .1)) (c .by-done2 .ensures), (c .before .before .before .before .before .before .before .before .before .before .before .before .before .before .before .before .before .loop .inv .1))
 
-price-requires-22 : tie.Need-price-requires-22 Inv-loop μ-loop
-price-requires-22 c κs = c .before .before .before .before .before .before .before .before .before .before .before .before .before .before .before .before .before .loop .inv .1 .0
+price-requires-27 : tie.Need-price-requires-27 Inv-loop μ-loop
+price-requires-27 c κs = c .before .before .before .before .before .before .before .before .before .before .before .before .before .before .before .before .before .loop .inv .1 .0
 
-counted-requires-23 : tie.Need-counted-requires-23 Inv-loop μ-loop
-counted-requires-23 c κs = ((found (c .before .before .before .before .before .before .before .before)) .less, ((omega (arith, (c .before .before .before .before .before .before .before .before .before .before .before .before .before .before .before .before .before .before .loop .inv .0) .priced, (c .before .before .before .before .before .before .before .before .before .before .before .before .before .before .before .before .before .before .loop .inv .0) .limit, (c .before .before .before .before .before .before .before .before .before .before .before .before .before .before .before .before .before .before .loop .inv .0) .left-within, (found (c .before .before .before .before .before .before .before .before)) .less)), c .price22 .ensures .1))
+counted-requires-28 : tie.Need-counted-requires-28 Inv-loop μ-loop
+counted-requires-28 c κs = ((found (c .before .before .before .before .before .before .before .before)) .less, ((omega (arith, (c .before .before .before .before .before .before .before .before .before .before .before .before .before .before .before .before .before .before .loop .inv .0) .priced, (c .before .before .before .before .before .before .before .before .before .before .before .before .before .before .before .before .before .before .loop .inv .0) .limit, (c .before .before .before .before .before .before .before .before .before .before .before .before .before .before .before .before .before .before .loop .inv .0) .left-within, (found (c .before .before .before .before .before .before .before .before)) .less)), c .price27 .ensures .1))
 
-loop-less-37 : tie.Need-loop-less-37 Inv-loop μ-loop
-loop-less-37 c = omega (arith, c .counted23 .ensures .1)
+loop-less-43 : tie.Need-loop-less-43 Inv-loop μ-loop
+loop-less-43 c = omega (arith, c .counted28 .ensures .1)
 
-loop-again-37 : tie.Need-loop-again-37 Inv-loop μ-loop
-loop-again-37 c = (goes (found (c .before .before .before .before .before .before .before .before .before)) (cells-acts (found (c .before .before .before .before .before .before .before .before .before)) (c .before .before .before .before .before .before .before .match3 .rest .0 .0 .0 .0 .0 .0 .1) (c .before .before .before .before .before .before .before .match3 .rest .1) (c .before .before .before .before .before .on-cells .ensures)) (ap saysDone (c .before .before .before .done2 .given .1)) refl refl (c .before .price22 .ensures .0) (c .counted23 .ensures .0), (c .before .before .before .before .before .before .before .before .before .before .before .before .before .before .before .before .before .before .before .loop .inv .1))
+loop-again-43 : tie.Need-loop-again-43 Inv-loop μ-loop
+loop-again-43 c = (goes (found (c .before .before .before .before .before .before .before .before .before)) (cells-acts (found (c .before .before .before .before .before .before .before .before .before)) (c .before .before .before .before .before .before .before .match3 .rest .0 .0 .0 .0 .0 .0 .0 .1) (c .before .before .before .before .before .before .before .match3 .rest .1) (c .before .before .before .before .before .on-cells .ensures)) (ap saysDone (c .before .before .before .done2 .given .1)) refl refl (c .before .price27 .ensures .0) (c .counted28 .ensures .0), (c .before .before .before .before .before .before .before .before .before .before .before .before .before .before .before .before .before .before .before .loop .inv .1))
 
 same-length : tie.Need-same-length Inv-loop μ-loop
 same-length c = (c .before .before .loop .inv .0) .long ∙ sym ((c .before .before .loop .inv .0) .long₀)
 
 returns : tie.Need-returns Inv-loop μ-loop
-returns c = record { unspent-within = (c .before .before .loop .inv .0) .unspent-within; laid = (c .before .before .loop .inv .1 .1); same = (c .before .before .loop .inv .0) .over (c .if1 .left) }
+returns c = record { unspent-within = (c .before .before .loop .inv .0) .unspent-within; laid = (c .before .before .loop .inv .1 .1 .0); loses = (c .before .before .loop .inv .1 .1 .1); same = (c .before .before .loop .inv .0) .over (c .if1 .left) }
 
 pub rounds-spec : {M : Type 1} → statement M
 rounds-spec =
@@ -1170,20 +1353,22 @@ rounds-spec =
     loop-less-23
     loop-again-23
     enum-known-spot-6
-    sub-write-number
-    mul-write-number
-    element-copy-out-write-number
-    write-number-requires
+    sub-store-number
+    mul-store-number
+    element-copy-out-store-number
+    store-number-requires
+    lose-requires
     sub-regs-6
     price-requires-13
     counted-requires-14
     loop-less-24
     loop-again-24
     enum-known-spot-7
-    sub-write-own
-    mul-write-own
-    element-copy-out-write-own
-    write-own-requires
+    sub-value
+    mul-value
+    element-copy-out-value
+    store-own-requires
+    lose-requires-2
     sub-regs-7
     price-requires-14
     counted-requires-15
@@ -1219,70 +1404,128 @@ rounds-spec =
     counted-requires-18
     loop-less-28
     loop-again-28
-    can-call-requires
+    reach-requires-3
+    enum-known-reached-3
     enum-told-15
-    enum-told-16
-    by-check-requires-5
+    by-reach-requires-3
     loop-less-29
     loop-again-29
+    enum-known-spot-11
+    sub-store-number-2
+    mul-store-number-2
+    element-copy-out-store-number-2
+    store-number-requires-2
+    lose-requires-3
+    sub-regs-11
+    price-requires-18
+    counted-requires-19
+    loop-less-30
+    loop-again-30
+    enum-known-spot-12
+    sub-value-2
+    mul-value-2
+    element-copy-out-value-2
+    store-own-requires-2
+    lose-requires-4
+    sub-regs-12
+    price-requires-19
+    counted-requires-20
+    loop-less-31
+    loop-again-31
+    enum-known-spot-13
+    sub-set-local-2
+    mul-set-local-2
+    element-copy-out-set-local-2
+    set-local-requires-2
+    sub-regs-13
+    price-requires-20
+    counted-requires-21
+    loop-less-32
+    loop-again-32
+    enum-known-spot-14
+    sub-set-cell-2
+    mul-set-cell-2
+    element-copy-out-set-cell-2
+    set-cell-requires-2
+    sub-regs-14
+    price-requires-21
+    counted-requires-22
+    loop-less-33
+    loop-again-33
+    enum-known-spot-15
+    sub-write-in-view-2
+    mul-write-in-view-2
+    element-copy-out-write-in-view-2
+    write-in-view-requires-2
+    sub-regs-15
+    price-requires-22
+    counted-requires-23
+    loop-less-34
+    loop-again-34
+    can-call-requires
+    enum-told-16
+    enum-told-17
+    by-check-requires-5
+    loop-less-35
+    loop-again-35
     mul-returns-4
     element-write-returns-3
     called-requires-2
     add-regs-8
     add-regs-9
-    price-requires-18
-    counted-requires-19
-    loop-less-30
-    loop-again-30
+    price-requires-23
+    counted-requires-24
+    loop-less-36
+    loop-again-36
     can-call-requires-2
-    enum-told-17
     enum-told-18
+    enum-told-19
     by-check-requires-6
-    loop-less-31
-    loop-again-31
+    loop-less-37
+    loop-again-37
     sub-to-2
     mul-to-2
     element-copy-out-to-2
     mul-returns-5
     element-write-returns-4
     called-requires-3
-    sub-regs-11
+    sub-regs-16
     add-regs-10
     add-regs-11
-    price-requires-19
-    counted-requires-20
-    loop-less-32
-    loop-again-32
+    price-requires-24
+    counted-requires-25
+    loop-less-38
+    loop-again-38
     can-exit-requires
-    enum-told-19
     enum-told-20
+    enum-told-21
     by-exit-requires
-    loop-less-33
-    loop-again-33
-    sub-regs-12
+    loop-less-39
+    loop-again-39
+    sub-regs-17
     sub-e-after-drop
     copy-of-s-requires-3
     e-after-drop-requires
     copy-of-r-requires-3
     return-address-requires
-    price-requires-20
-    counted-requires-21
-    loop-less-34
-    loop-again-34
-    price-requires-21
-    counted-requires-22
+    price-requires-25
+    counted-requires-26
+    loop-less-40
+    loop-again-40
+    price-requires-26
+    counted-requires-27
     paused-requires
-    loop-less-35
-    loop-again-35
+    loop-less-41
+    loop-again-41
     on-cells-requires
     enum-known-done-2
-    enum-told-21
+    enum-told-22
     by-done-requires-2
-    loop-less-36
-    loop-again-36
-    price-requires-22
-    counted-requires-23
-    loop-less-37
-    loop-again-37
+    loop-less-42
+    loop-again-42
+    price-requires-27
+    counted-requires-28
+    loop-less-43
+    loop-again-43
     same-length
     returns)
