@@ -1,10 +1,10 @@
 -- What the memory loses by stores, and what is then handed back for its sum.
 use mathlib.Core.Path.{_≡_, refl, ap, sym, _∙_}
-use mathlib.Core.List.{List, [], _∷_}
+use mathlib.Core.List.{List, []}
 use Prim.Native.Nat.{ℕ, zero, suc, _+_, _-_, _*_, _%_, _/_, _^_, _≤_, _<_}
 use native.Mathlib.Omega.{arith}
 use lib.ListN.{getD, set, length, take, drop}
-use lib.Seq.{sets, getD-set-other}
+use lib.Seq.{sets, getD-set-other, getD-take, getD-drop}
 use Rattle.numbers.specs.Bytes.{bytesOf}
 use Rattle.numbers.specs.Laws.Bytes.{length-bytes}
 use Rattle.machine.specs.Limits.{tasksCount}
@@ -152,22 +152,10 @@ unfolding sumAfter
 sum-less sum lost mem mem′ e = omega (arith, e)
 
 -- a part that is lent on has the bytes of the whole
-read-taken : (l : List ℕ) (size i : ℕ) → i < size → getD (take size l) i 0 ≡ getD l i 0
-read-taken [] zero i h = refl
-read-taken [] (suc size) i h = refl
-read-taken (x ∷ xs) zero i h = absurd (omega arith)
-read-taken (x ∷ xs) (suc size) zero h = refl
-read-taken (x ∷ xs) (suc size) (suc i) h = read-taken xs size i (omega arith)
-
-read-dropped : (l : List ℕ) (start i : ℕ) → getD (drop start l) i 0 ≡ getD l (start + i) 0
-read-dropped l zero i = let same : i ≡ 0 + i = omega arith in ap (λ (k : ℕ). getD l k 0) same
-read-dropped [] (suc start) i = refl
-read-dropped (x ∷ xs) (suc start) i = let place : suc (start + i) ≡ suc start + i = omega arith in read-dropped xs start i ∙ ap (λ (k : ℕ). getD (x ∷ xs) k 0) place
-
 standing-in-part : (n : ℕ) (whole : List ℕ) (start size i : ℕ) → i + n ≤ size → standing n (take size (drop start whole)) i ≡ standing n whole (start + i)
 standing-in-part zero whole start size i h = refl
 standing-in-part (suc n) whole start size i h =
-    let here : getD (take size (drop start whole)) i 0 ≡ getD whole (start + i) 0 = read-taken (drop start whole) size i (omega arith) ∙ read-dropped whole start i in
+    let here : getD (take size (drop start whole)) i 0 ≡ getD whole (start + i) 0 = getD-take size (drop start whole) i 0 (omega arith) ∙ getD-drop start whole i 0 in
     let rest = standing-in-part n whole start size (suc i) (omega arith) in
     let place : start + suc i ≡ suc (start + i) = omega arith in
     let same : standing n whole (start + suc i) ≡ standing n whole (suc (start + i)) = ap (λ (k : ℕ). standing n whole k) place in

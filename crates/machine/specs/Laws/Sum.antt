@@ -1,11 +1,11 @@
 -- The memory sum: what a store makes of it, how far it moves from run to run, and how great it can be.
 use mathlib.Core.List.{List, [], _∷_, _++_}
-use mathlib.Core.Path.{_≡_, refl}
+use mathlib.Core.Path.{_≡_, refl, sym}
 use Prim.Native.Nat.{ℕ, zero, suc, _+_, _-_, _*_, _^_, _≤_, _<_}
-use native.Mathlib.Nat.{le-of-suc-le-suc, not-suc-le-zero}
+use native.Mathlib.Nat.{le-of-suc-le-suc, not-suc-le-zero, zero-mul, suc-mul}
 use native.Mathlib.Omega.{arith}
 use lib.ListN.{getD, set, length, length-set, replicate}
-use lib.Seq.{sets}
+use lib.Seq.{sets, getD-set-other}
 use Rattle.plain.specs.Zeros.{padded}
 use Rattle.machine.specs.Fits.{AllBytes}
 use Rattle.machine.specs.Limits.{memoryLength, mostSum}
@@ -27,16 +27,9 @@ sum-set (y ∷ ys) (suc i) x h = let rest = sum-set ys i x (le-of-suc-le-suc h) 
 standing-behind : (n : ℕ) (l : List ℕ) (i k x : ℕ) → i < k → standing n (set l i x) k ≡ standing n l k
 standing-behind zero l i k x h = refl
 standing-behind (suc n) l i k x h =
-    let here = behind l i k h in
+    let here = getD-set-other l i k x 0 (λ same. omega arith) in
     let rest = standing-behind n l i (suc k) x (omega arith) in
     omega (arith, here, rest)
-  where
-    behind : (l : List ℕ) (i k : ℕ) → i < k → getD (set l i x) k 0 ≡ getD l k 0
-    behind [] i k h = refl
-    behind (y ∷ ys) zero zero h = absurd (not-suc-le-zero h)
-    behind (y ∷ ys) zero (suc k) h = refl
-    behind (y ∷ ys) (suc i) zero h = absurd (not-suc-le-zero h)
-    behind (y ∷ ys) (suc i) (suc k) h = behind ys i k (le-of-suc-le-suc h)
 
 -- some bytes are put in the place of others
 pub sum-sets : (xs l : List ℕ) (i : ℕ) → i + length xs ≤ length l → sumOf (sets l i xs) + standing (length xs) l i ≡ sumOf l + sumOf xs
@@ -55,17 +48,18 @@ unfolding sumOf
 sum-append [] k = omega arith
 sum-append (b ∷ bs) k = let rest = sum-append bs k in omega (arith, rest)
 
--- zeros behind leave a sum
-sum-zeros : (n : ℕ) → sumOf (replicate n 0) ≡ 0
+-- bytes that are all alike
+pub sum-alike : (n b : ℕ) → sumOf (replicate n b) ≡ n * b
 unfolding sumOf
-sum-zeros zero = refl
-sum-zeros (suc n) = let rest = sum-zeros n in omega (arith, rest)
+sum-alike zero b = sym (zero-mul b)
+sum-alike (suc n) b = let rest = sum-alike n b in let more = suc-mul n b in omega (arith, rest, more)
 
+-- zeros behind leave a sum
 pub sum-padded : (size : ℕ) (l : List ℕ) → sumOf (padded size l) ≡ sumOf l
 unfolding padded
 sum-padded size l =
     let both = sum-append l (replicate (size - length l) 0) in
-    let none = sum-zeros (size - length l) in
+    let none = sum-alike (size - length l) 0 in
     omega (arith, both, none)
 
 -- a sum of bytes is at most 255 for each

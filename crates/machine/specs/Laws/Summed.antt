@@ -3,7 +3,7 @@
 use mathlib.Core.Path.{_≡_, refl, sym, ap, _∙_}
 use mathlib.Core.Bool.{Bool, true, false}
 use mathlib.Core.List.{List}
-use Prim.Native.Nat.{ℕ, zero, suc, _*_, _^_, _≤_, _<_}
+use Prim.Native.Nat.{ℕ, suc, _^_, _≤_, _<_}
 use native.Mathlib.Omega.{arith}
 use borrow.Author.Tests.{le-leb, lt-leb, leb-true, leb-false}
 use lib.Dec.{leb, eqb}
@@ -20,18 +20,13 @@ use Rattle.machine.specs.Laws.Accepted.{taken}
 use Rattle.machine.specs.Laws.Clash.{clash}
 use Rattle.machine.specs.Laws.OnlyTasks.{only-run}
 use Rattle.machine.specs.Laws.StillBytes.{Still, run-still, tasks-still}
-use Rattle.machine.specs.Laws.Sum.{memory-sum, sum-stays, sum-true}
+use Rattle.machine.specs.Laws.Sum.{sum-alike, memory-sum, sum-stays, sum-true}
 use Rattle.machine.specs.Laws.TasksTaken as tasks
 use Rattle.machine.specs.declared.Machine.{Machine}
 
 -- the greatest sum is that of a memory whose bytes are all FF
-full : (n : ℕ) → sumOf (replicate n 0xFF) ≡ 255 * n
-unfolding sumOf
-full zero = refl
-full (suc n) = let rest = full n in omega (arith, rest)
-
 pub most-is-full : sumOf (replicate memoryLength 0xFF) ≡ mostSum
-most-is-full = full memoryLength
+most-is-full = sum-alike memoryLength 0xFF
 
 -- it is taken, and one more is refused
 pub most-taken : (mem : List ℕ) (m : Machine) (budget : ℕ) → runSummed mem m budget 8355840 .after ≡ runOf mem m budget
