@@ -10,7 +10,7 @@ use std::process::Command;
 const PLAIN: &str = "c/plain.c";
 const PAINTED: &str = "c/painted.c";
 const HEADERS: &str = "../include";
-const PROVED: [&str; 4] = ["glidecotton", "host", "reader", "tasks"];
+const PROVED: [&str; 5] = ["glidecotton", "host", "lines", "reader", "tasks"];
 
 fn main() {
     let out = PathBuf::from(env::var("OUT_DIR").expect("cargo sets OUT_DIR"));
@@ -40,6 +40,8 @@ fn main() {
                 "-Dplain_read_image=glidecotton_read_image",
                 "-Dplain_run_state=glidecotton_run_state",
                 "-Dplain_run_tasks=glidecotton_run_tasks",
+                "-Dplain_raise_line=glidecotton_raise_line",
+                "-Dplain_set_mask=glidecotton_set_mask",
             ],
         );
         println!("cargo:rustc-link-lib=static=glidecotton");

@@ -6,7 +6,7 @@ if [ -n "${GLIDECOTTON_STAND_IN:-}" ]; then
     stand_in=--stand-in
 else
     . ./kit.sh
-    for crate in glidecotton host reader tasks; do
+    for crate in glidecotton host lines reader tasks; do
         (cd .. && rt staticlib "$crate")
         mv "$frames" "../target/staticlib/lib$crate.su"
     done

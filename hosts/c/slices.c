@@ -9,26 +9,9 @@
 #include <stdlib.h>
 #include <string.h>
 
-#include "buffers.h"
 #include "glidecotton.h"
 #include "image.h"
-
-static void show_line(struct counted all, const uint8_t *state) {
-    printf("%" PRIu64 " %" PRIu64 " %" PRIu64 " ", all.answer, all.steps, all.cycles);
-    show_state(state);
-}
-
-static void show_cells(const uint8_t *state) {
-    uint64_t depth = pointer(state, GLIDECOTTON_P);
-    for (uint64_t i = 0; i < depth; i++) printf("%08" PRIX64 "\n", cell(state, GLIDECOTTON_CELLS + 4 * i));
-}
-
-/* One call of the library; the state is ready for the next call, which is given the sum that this one leaves. */
-static struct counted run_slice(uint8_t *state, uint8_t *memory, uint64_t steps, uint64_t sum) {
-    uint8_t result[GLIDECOTTON_RESULT];
-    if (glidecotton_run_state(state, GLIDECOTTON_STATE, memory, GLIDECOTTON_MEMORY, steps, sum, result, sizeof result) != 0) abort();
-    return counted_in(result);
-}
+#include "slice.h"
 
 /* Slices until the machine stops by itself or the image's own budget is spent. */
 static void run_all(struct image *image, uint64_t slice, int sums) {

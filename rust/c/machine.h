@@ -18,13 +18,15 @@ enum {
     CATCH_CELLS = 8,
     MAX_BUDGET = 1000000,
     DEFAULT_BUDGET = 250000,
-    STATE_BYTES = 3536,
+    STATE_BYTES = 3548,
+    MASK_AT = 3536,    /* where a state has the mask */
+    WAITING_AT = 3540, /* and the lines that wait */
     RESULT_BYTES = 32,
     READ_RESULT_BYTES = 16,
     TEXT_BYTES = 800
 };
 
-enum { EXIT_CODE = 0x3D, PAUSE_CODE = 0x3E };
+enum { RTI_CODE = 0x3C, EXIT_CODE = 0x3D, PAUSE_CODE = 0x3E };
 
 /* Address and bytes of the cells in view: the locals of level s, then the cells of level e. */
 enum { VIEW = 0x10000, LOCAL_BYTES = 4 * LOCALS, VIEW_BYTES = LOCAL_BYTES + 4 * CATCH_CELLS };
@@ -56,6 +58,9 @@ struct machine {
     uint32_t flag;
     uint32_t thrown_address; /* of the last THROW of non-zero that was carried out */
     uint32_t thrown_code;
+    uint32_t mask;    /* bit n lets line n in */
+    uint32_t waiting; /* bit n: line n waits */
+    uint32_t block;   /* 1 while a routine is in progress */
 };
 
 /* Sum is 64 bits wide because a run that is refused hands back what a host handed in. */
@@ -67,7 +72,7 @@ static const uint8_t CYCLES[63] = {
     1, 1, 1, 1, 1, 1, 1, 1, 1, 1, 1, 2, 1, 3, 1,  1, /* 00 */
     1, 1, 1, 1, 1, 1, 1, 1, 1, 1, 1, 1, 1, 1, 1,  1, /* 10 */
     1, 1, 1, 1, 1, 1, 1, 1, 1, 5, 5, 42, 41, 2, 2, 2, /* 20 */
-    2, 2, 2, 2, 2, 2, 2, 2, 2, 2, 1, 1, 1, 2, 1,      /* 30 */
+    2, 2, 2, 2, 2, 2, 2, 2, 2, 2, 1, 1, 2, 2, 1,      /* 30 */
 };
 
 static uint32_t get16(const uint8_t *b) { return (uint32_t)b[0] << 8 | b[1]; }
@@ -120,6 +125,7 @@ static inline void put32_in_view(struct machine *m, uint64_t s, uint64_t e, uint
 
 static int well_formed(const struct machine *m) {
     if (m->p > CELLS || m->r > CELLS || m->s > FRAMES || m->e > CATCHES || m->flag > 1) return 0;
+    if (m->mask > 0xFFFF || m->waiting > 0xFFFF || m->waiting & 1 || m->block > 1) return 0;
     for (uint64_t i = 1; i <= m->s; i++) {
         uint64_t above = i < m->s ? m->frames[i + 1].copy_r : m->r;
         if (m->frames[i].copy_r >= above) return 0;

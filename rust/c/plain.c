@@ -118,6 +118,9 @@ static void read_state(struct machine *m, const uint8_t *at) {
     m->flag = (uint32_t)take(&at, 4);
     m->thrown_address = (uint32_t)take(&at, 4);
     m->thrown_code = (uint32_t)take(&at, 4);
+    m->mask = (uint32_t)take(&at, 4);
+    m->waiting = (uint32_t)take(&at, 4);
+    m->block = (uint32_t)take(&at, 4);
 }
 
 static void write_state(const struct machine *m, uint8_t *at) {
@@ -144,6 +147,9 @@ static void write_state(const struct machine *m, uint8_t *at) {
     give(&at, 4, m->flag);
     give(&at, 4, m->thrown_address);
     give(&at, 4, m->thrown_code);
+    give(&at, 4, m->mask);
+    give(&at, 4, m->waiting);
+    give(&at, 4, m->block);
 }
 
 static void write_result(struct outcome o, uint8_t *at) {
@@ -208,5 +214,20 @@ uint64_t plain_run_tasks(uint8_t *bytes, size_t bytes_len, uint8_t *memory, size
         for (int t = 0; t < TASKS; t++) write_task(&tasks[t], bytes + t * TASK_BYTES);
     }
     write_result(o, result);
+    return 0;
+}
+
+/* Makes a line wait in a state handed in as bytes; 2 with nothing touched where the state has another length, or there is no such line. */
+uint64_t plain_raise_line(uint8_t *state, size_t state_len, uint64_t line) {
+    if (state_len != STATE_BYTES || line < 1 || line > 15) return 2;
+    state[WAITING_AT + 3 - line / 8] |= (uint8_t)(1u << line % 8);
+    return 0;
+}
+
+/* Sets the mask of a state handed in as bytes; 2 with nothing touched where the state has another length, or the mask too many bits. */
+uint64_t plain_set_mask(uint8_t *state, size_t state_len, uint64_t mask) {
+    if (state_len != STATE_BYTES || mask > 0xFFFF) return 2;
+    uint8_t *at = state + MASK_AT;
+    give(&at, 4, mask);
     return 0;
 }

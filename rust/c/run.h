@@ -53,7 +53,8 @@ struct reach {
 #define TRUTH(condition) ((condition) ? 0xFFFFFFFFu : 0u)
 
 /* Carries out instructions and counts them, until so many are counted; of a task among four also until a PAUSE. Answers 1 where the
-   machine can go on. */
+   machine can go on. Only a host raises lines and only RTI lets the next one in, so that the lines are looked at first and after each
+   RTI, and before each instruction only where one is due and has no room. */
 static inline __attribute__((always_inline)) uint64_t instructions(struct machine *m, uint8_t *mem, int alone, struct reach reach,
                                                                    struct outcome *counts, uint64_t budget) {
     uint32_t *param = m->param;
@@ -61,9 +62,28 @@ static inline __attribute__((always_inline)) uint64_t instructions(struct machin
     uint64_t p = m->p, r = m->r, s = m->s, e = m->e;
     uint64_t steps = counts->steps, cycles = counts->cycles, answer;
     uint32_t sum = (uint32_t)counts->sum;
+    /* The number of steps at which there may be more to do than the next instruction. */
+    uint64_t look_at = m->waiting & m->mask ? steps : budget;
 
     for (;;) {
-        if (steps == budget) REFUSE(1);
+        if (steps == look_at) {
+            if (steps == budget) REFUSE(1);
+            look_at = budget;
+            uint32_t due = m->waiting & m->mask;
+            /* Lines enter a machine alone, or task 0; those of the other tasks wait for ever. */
+            if (due && m->block == 0 && (alone || reach.own == SHARED)) {
+                if (r < CELLS && s < FRAMES) {
+                    uint32_t line = (uint32_t)__builtin_ctz(due);
+                    m->waiting &= ~(1u << line);
+                    m->block = 1;
+                    next = pc;
+                    CALL(4 * line);
+                    pc = next;
+                } else {
+                    look_at = steps + 1; /* an instruction may make room */
+                }
+            }
+        }
         WITHIN(1);
         uint32_t code = mem[pc];
         if (code >= 0x80) {
@@ -239,6 +259,11 @@ static inline __attribute__((always_inline)) uint64_t instructions(struct machin
             p--;
             CALL(param[p]);
             break;
+        case RTI_CODE:
+            if (m->block == 0 || s == 0) REFUSE(16);
+            m->block = 0;
+            look_at = steps + 1;
+            /* fall through */
         case EXIT_CODE:
             if (s == 0) REFUSE(0);
             next = m->frames[s].ret;

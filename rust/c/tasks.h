@@ -16,7 +16,7 @@ struct task {
 
 static int good_task(const struct task *task) {
     uint64_t kept = task->kept;
-    return (kept <= 13 ? kept != 2 : kept == 17) && well_formed(&task->machine);
+    return (kept <= 13 ? kept != 2 : kept == 16 || kept == 17) && well_formed(&task->machine);
 }
 
 /* Task 0's part follows the shared memory, so that both are one stretch to it. */

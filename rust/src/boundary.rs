@@ -12,6 +12,7 @@ type Bench = unsafe extern "C" fn(*const u8, usize, *mut u8, usize, *mut u8, usi
 type ReadImage = unsafe extern "C" fn(*const u8, usize, *mut u8, usize, *mut u8, usize, *mut u8, usize) -> u64;
 type RunState = unsafe extern "C" fn(*mut u8, usize, *mut u8, usize, u64, u64, *mut u8, usize) -> u64;
 type RunTasks = unsafe extern "C" fn(*mut u8, usize, *mut u8, usize, u64, u64, u64, *mut u8, usize) -> u64;
+type OnLines = unsafe extern "C" fn(*mut u8, usize, u64) -> u64;
 
 #[rustfmt::skip]
 extern "C" {
@@ -19,10 +20,14 @@ extern "C" {
     fn glidecotton_read_image(image: *const u8, image_len: usize, memory: *mut u8, memory_len: usize, state: *mut u8, state_len: usize, result: *mut u8, result_len: usize) -> u64;
     fn glidecotton_run_state(state: *mut u8, state_len: usize, memory: *mut u8, memory_len: usize, budget: u64, sum: u64, result: *mut u8, result_len: usize) -> u64;
     fn glidecotton_run_tasks(tasks: *mut u8, tasks_len: usize, memory: *mut u8, memory_len: usize, quantum: u64, budget: u64, sum: u64, result: *mut u8, result_len: usize) -> u64;
+    fn glidecotton_raise_line(state: *mut u8, state_len: usize, line: u64) -> u64;
+    fn glidecotton_set_mask(state: *mut u8, state_len: usize, mask: u64) -> u64;
     fn plain_bench(image: *const u8, image_len: usize, memory: *mut u8, memory_len: usize, out: *mut u8, out_len: usize) -> u64;
     fn plain_read_image(image: *const u8, image_len: usize, memory: *mut u8, memory_len: usize, state: *mut u8, state_len: usize, result: *mut u8, result_len: usize) -> u64;
     fn plain_run_state(state: *mut u8, state_len: usize, memory: *mut u8, memory_len: usize, budget: u64, sum: u64, result: *mut u8, result_len: usize) -> u64;
     fn plain_run_tasks(tasks: *mut u8, tasks_len: usize, memory: *mut u8, memory_len: usize, quantum: u64, budget: u64, sum: u64, result: *mut u8, result_len: usize) -> u64;
+    fn plain_raise_line(state: *mut u8, state_len: usize, line: u64) -> u64;
+    fn plain_set_mask(state: *mut u8, state_len: usize, mask: u64) -> u64;
     fn painted_call(function: *const (), nine_words: *const u64, painted_with: u8, its_answer: *mut u64) -> u64;
     static promised_stack: u64;
     static promised_tasks_stack: u64;
@@ -35,6 +40,8 @@ pub struct Foreign {
     read_image: ReadImage,
     run_state: RunState,
     run_tasks: RunTasks,
+    raise_line: OnLines,
+    set_mask: OnLines,
 }
 
 pub const PROVED: Foreign = Foreign {
@@ -42,12 +49,16 @@ pub const PROVED: Foreign = Foreign {
     read_image: glidecotton_read_image,
     run_state: glidecotton_run_state,
     run_tasks: glidecotton_run_tasks,
+    raise_line: glidecotton_raise_line,
+    set_mask: glidecotton_set_mask,
 };
 pub const PLAIN_C: Foreign = Foreign {
     bench: plain_bench,
     read_image: plain_read_image,
     run_state: plain_run_state,
     run_tasks: plain_run_tasks,
+    raise_line: plain_raise_line,
+    set_mask: plain_set_mask,
 };
 
 impl Foreign {
@@ -118,6 +129,19 @@ impl Foreign {
             )
         }
     }
+
+    /// Makes a line of a state spelled in bytes wait; gives 0, or 2 where the state has a wrong length or there is no such
+    /// line.
+    pub fn raise_line(self, state: &mut [u8], line: u64) -> u64 {
+        // SAFETY: as above.
+        unsafe { (self.raise_line)(state.as_mut_ptr(), state.len(), line) }
+    }
+
+    /// Sets the mask of a state spelled in bytes; gives 0, or 2 where the state has a wrong length or the mask too many bits.
+    pub fn set_mask(self, state: &mut [u8], mask: u64) -> u64 {
+        // SAFETY: as above.
+        unsafe { (self.set_mask)(state.as_mut_ptr(), state.len(), mask) }
+    }
 }
 
 /// What a call on a painted stack gave.
@@ -165,6 +189,20 @@ pub fn painted_run_tasks(paint: u8, tasks: &mut [u8], memory: &mut [u8], with: [
     let words = [&lent_to_write(tasks)[..], &lent_to_write(memory), &with, &lent_to_write(result)];
     // SAFETY: as above.
     unsafe { painted(glidecotton_run_tasks as *const (), &words.concat(), paint) }
+}
+
+/// Makes a line wait on a stack painted with a byte, by the proved library.
+pub fn painted_raise_line(paint: u8, state: &mut [u8], line: u64) -> Painted {
+    let words = [&lent_to_write(state)[..], &[line]];
+    // SAFETY: as above.
+    unsafe { painted(glidecotton_raise_line as *const (), &words.concat(), paint) }
+}
+
+/// Sets the mask on a stack painted with a byte, by the proved library.
+pub fn painted_set_mask(paint: u8, state: &mut [u8], mask: u64) -> Painted {
+    let words = [&lent_to_write(state)[..], &[mask]];
+    // SAFETY: as above.
+    unsafe { painted(glidecotton_set_mask as *const (), &words.concat(), paint) }
 }
 
 fn lent(bytes: &[u8]) -> [u64; 2] {

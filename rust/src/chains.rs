@@ -2,8 +2,10 @@
 
 use crate::fragments::{any_access, Arena, Taste, STYLES};
 use crate::grower::Grower;
+use crate::line_calls::{some_calls, LineCall};
 use crate::memories::{bytes, refused_sum, Memory};
 use crate::model::codes::row_of;
+use crate::model::entry::enter;
 use crate::model::place::width;
 use crate::model::reach::{Reach, TASKS};
 use crate::model::state::{Machine, MEMORY};
@@ -12,7 +14,7 @@ use crate::model::tasks::Task;
 use crate::operands::{over, over_an_end_of_view};
 use crate::random::Random;
 use crate::state_bytes::{READ_RESULT_BYTES, RESULT_BYTES, STATE_BYTES, TASKS_BYTES};
-use crate::states::{broken, well_formed, CLAUSES};
+use crate::states::{broken, well_formed, with_lines, CLAUSES};
 use crate::task_chains::Pace;
 
 const WRONG_SUM: &str = "state: wrong sum";
@@ -60,11 +62,20 @@ pub trait Runner {
         pace: Pace,
         lengths: Lengths,
     ) -> Result<(), Self::Failure>;
+
+    /// Makes a host's call on the state of a machine, alone or a task, handed over in so many bytes.
+    fn lines(
+        &mut self,
+        reach: Reach,
+        machine: &mut Machine,
+        call: LineCall,
+        length: usize,
+    ) -> Result<(), Self::Failure>;
 }
 
 /// States of a random kind; gives the number of runs they took.
 pub fn any_state<R: Runner>(runner: &mut R, random: &mut Random) -> Result<u64, R::Failure> {
-    match random.below(14) {
+    match random.below(18) {
         0 | 1 => {
             let machine = well_formed(random);
             let mut memory = Memory::any(random);
@@ -72,7 +83,8 @@ pub fn any_state<R: Runner>(runner: &mut R, random: &mut Random) -> Result<u64, 
             Ok(1)
         }
         2..=5 => any_instruction(runner, random),
-        6..=9 => any_store(runner, random),
+        6..=10 => any_store(runner, random),
+        11..=13 => any_entry(runner, random),
         _ => chain(runner, random),
     }
 }
@@ -117,6 +129,10 @@ fn wrong_call<R: Runner>(
     }
     runner.state(kind, &mut machine, memory, budget, lengths)?;
     memory.sum = own;
+    // A state that no run takes is not judged by the calls for lines.
+    if CLAUSES.contains(&kind) {
+        some_calls(runner, random, Reach::Alone, &mut machine)?;
+    }
     Ok(())
 }
 
@@ -126,15 +142,51 @@ fn any_instruction<R: Runner>(runner: &mut R, random: &mut Random) -> Result<u64
     let mut bytes = bytes(random);
     let at = if random.percent(10) { MEMORY - random.between(1, 5) } else { random.below(MEMORY) };
     machine.program_counter = at as u32;
-    bytes[at] = match random.below(10) {
+    let code = match random.below(10) {
         0 => random.byte(),
-        1 | 2 => partly_in_view(&mut machine, random),
+        1..=3 => partly_in_view(&mut machine, random),
         _ => random.below(0x3F) as u8,
     };
+    bytes[at] = code;
+    bytes[first_instruction(&machine)] = code;
     let budget = random.between(0, 2) as u64;
     let mut memory = Memory::with_any_sum(random, bytes);
     runner.state("state: any instruction", &mut machine, &mut memory, budget, Lengths::OF_STATE)?;
     Ok(1)
+}
+
+/// Where a machine's first instruction is: its own, or a routine's.
+pub fn first_instruction(machine: &Machine) -> usize {
+    let mut machine = machine.clone();
+    enter(&mut machine);
+    machine.program_counter as usize
+}
+
+/// Instructions that have to do with lines, at the program counter and in all routines of a state with lines.
+fn any_entry<R: Runner>(runner: &mut R, random: &mut Random) -> Result<u64, R::Failure> {
+    let mut machine = with_lines(random);
+    let mut bytes = bytes(random);
+    machine.program_counter = random.between(64, MEMORY - 1) as u32;
+    lay_line_codes(random, &mut bytes, &machine);
+    if random.percent(30) {
+        some_calls(runner, random, Reach::Alone, &mut machine)?;
+    }
+    let budget = random.below(5) as u64;
+    let mut memory = Memory::with_any_sum(random, bytes);
+    runner.state("state: with lines", &mut machine, &mut memory, budget, Lengths::OF_STATE)?;
+    Ok(1)
+}
+
+/// Puts codes that have to do with lines where the machine stands and where the routines begin.
+pub fn lay_line_codes(random: &mut Random, bytes: &mut [u8], machine: &Machine) {
+    for at in (1..=15).map(|line| 4 * line).chain([machine.program_counter as usize]) {
+        let any = random.byte();
+        bytes[at] = random.pick(&[0x3C, 0x3C, 0x3C, 0x3D, 0x3D, 0x0D, 0x09, 0x0C, 0x00, any]);
+    }
+    // At the lowest level mostly one that would finish the run.
+    if machine.s == 0 && random.percent(60) {
+        bytes[machine.program_counter as usize] = 0x3D;
+    }
 }
 
 /// The code of an access, for which the top cell becomes an address across an end of the cells in view.
@@ -153,6 +205,7 @@ fn any_store<R: Runner>(runner: &mut R, random: &mut Random) -> Result<u64, R::F
     let (at, code) = (random.below(MEMORY), random.pick(&[0x2E, 0x30, 0x32]));
     machine.program_counter = at as u32;
     bytes[at] = code;
+    bytes[first_instruction(&machine)] = code;
     match random.below(10) {
         0 | 1 => machine.p = random.below(2),
         2 | 3 => {}
@@ -177,21 +230,20 @@ pub fn aim(random: &mut Random, machine: &mut Machine, code: u8, address: u32, b
     }
 }
 
-/// Several runs of one state, one after another, the memory changed in between.
+/// Several runs of one state, one after another, the lines and the memory changed in between.
 fn chain<R: Runner>(runner: &mut R, random: &mut Random) -> Result<u64, R::Failure> {
     let mut machine = if random.percent(15) { Machine::fresh() } else { well_formed(random) };
     let mut bytes = bytes(random);
     machine.program_counter = if random.percent(2) { random.u32() } else { random.below(ARENA.length) as u32 };
     let mut runs = 0;
     for _ in 0..random.between(1, 5) {
+        some_calls(runner, random, Reach::Alone, &mut machine)?;
         let (_, style) = random.pick(&STYLES);
         let target = random.between(1, 120) as u64;
         let copy: Box<[u8; MEMORY]> = bytes.clone().into_boxed_slice().try_into().expect("a memory's length");
         let taste = Taste { style, arena: ARENA, reach: Reach::Alone };
         let grown = Grower::new(random, copy, target).grow(machine.clone(), &taste);
-        for (address, byte) in grown.chosen {
-            bytes[address] = byte;
-        }
+        grown.write(random, ARENA, &mut bytes);
         let budget = grown.steps.saturating_sub(random.below(2) as u64) + random.below(3) as u64;
         let mut memory = Memory::with_any_sum(random, bytes);
         runs += in_slices(runner, random, "state: run in a chain", &mut machine, &mut memory, budget)?;
@@ -206,7 +258,7 @@ fn chain<R: Runner>(runner: &mut R, random: &mut Random) -> Result<u64, R::Failu
     Ok(runs)
 }
 
-/// Runs a state with a budget that may be cut into slices; gives the number of calls.
+/// Runs a state with a budget that may be cut into slices, with lines raised between them; gives the number of calls.
 pub fn in_slices<R: Runner>(
     runner: &mut R,
     random: &mut Random,
@@ -221,6 +273,7 @@ pub fn in_slices<R: Runner>(
             Some(budget) => runner.state(kind, machine, memory, budget, Lengths::OF_STATE)?,
             None => wrong_call(runner, random, machine.clone(), memory)?,
         }
+        some_calls(runner, random, Reach::Alone, machine)?;
     }
     Ok(calls.len() as u64)
 }
@@ -233,7 +286,7 @@ pub fn slices(random: &mut Random, mut budget: u64) -> Vec<Option<u64>> {
         let slice = random.between(0, budget as usize) as u64;
         budget -= slice;
         calls.push(Some(slice));
-        if random.percent(30) {
+        if random.percent(40) {
             calls.push(None);
         }
     }

@@ -2,15 +2,16 @@
 
 use crate::boundary::PROVED;
 use crate::chains::{Lengths, Runner};
+use crate::line_calls::LineCall;
 use crate::memories::Memory;
 use crate::model::bench::bench;
 use crate::model::image::{load_image, Loaded};
-use crate::model::reach::TASKS;
+use crate::model::reach::{Reach, TASKS};
 use crate::model::run::{run, Outcome};
 use crate::model::state::{Answer, Machine, MEMORY};
 use crate::model::tasks::{run_tasks, Task};
 use crate::random::Random;
-use crate::state_bytes::{numbers_in, spell, spell_read_result, spell_result, spell_tasks};
+use crate::state_bytes::{numbers_in, spell, spell_read_result, spell_result, spell_tasks, take_lines, STATE_BYTES};
 use crate::tally::Tally;
 use crate::task_chains::Pace;
 
@@ -227,9 +228,11 @@ impl Runner for Comparison {
             memory,
             [lengths, Lengths::OF_STATE],
             |handed, memory, tally| {
-                let mut observer = (&mut tally.instructions, &mut tally.sums);
-                let outcome = run(machine, memory, budget, sum, &mut observer);
+                tally.lines.begins();
+                let mut first = (&mut tally.instructions, &mut tally.sums);
+                let outcome = run(machine, memory, budget, sum, &mut (&mut first, &mut tally.lines));
                 tally.answer(outcome.answer);
+                tally.lines.ran(machine, outcome);
                 tally.sums.ran(handed, outcome, memory, || {
                     let with_another = run(&mut machine.clone(), &mut memory.clone(), budget, 0, &mut ());
                     with_another.answer != Answer::BadInput
@@ -259,8 +262,10 @@ impl Runner for Comparison {
             [lengths, Lengths::OF_TASKS],
             |handed, memory, tally| {
                 tally.turns.begins(tasks, pace);
+                let before = tasks.clone();
                 let outcome = run_tasks(tasks, memory, quantum, budget, sum, &mut tally.turns);
                 tally.turns.answer(outcome.answer);
+                tally.turns.ran(&before, tasks, outcome);
                 tally.turns.sums.ran(handed, outcome, memory, || {
                     let with_another = run_tasks(&mut tasks.clone(), &mut memory.clone(), quantum, budget, 0, &mut ());
                     with_another.answer != Answer::BadInput
@@ -272,7 +277,30 @@ impl Runner for Comparison {
             },
         )
     }
+
+    /// Makes a call of the host's on both, and leaves the machine's lines as they did.
+    fn lines(&mut self, reach: Reach, machine: &mut Machine, call: LineCall, length: usize) -> Result<(), Difference> {
+        self.tally.called(reach, machine, call, length);
+        let before = [filled(spell(machine), length), self.noise[..BEHIND].to_vec()].concat();
+        let (mut ours, mut theirs) = (before.clone(), before);
+        let expected = call.by_model(&mut ours[..length]);
+        let number = call.by(PROVED, &mut theirs[..length]);
+        if number != expected || theirs != ours {
+            return Err(Difference(format!(
+                "{call:?} of a state of {length} bytes\nbefore {}\nmodel  {expected}\nproved {number}\n{}",
+                hex(&spell(machine)),
+                first_difference("what was handed in", &ours, &theirs),
+            )));
+        }
+        if length == STATE_BYTES {
+            take_lines(machine, &ours);
+        }
+        Ok(())
+    }
 }
+
+/// What lies behind a state that is lent for a call of the host's, and must stay.
+const BEHIND: usize = 16;
 
 /// Bytes cut or filled up to a length.
 pub fn filled(mut bytes: Vec<u8>, length: usize) -> Vec<u8> {

@@ -1,5 +1,7 @@
 //! The pieces that programs are grown from: one instruction, or one with the literals it needs.
 
+use std::ops::RangeInclusive;
+
 use crate::model::codes::{fetch, row_of, PAUSE_CODE};
 use crate::model::place::width;
 use crate::model::reach::Reach;
@@ -40,6 +42,10 @@ pub const STYLES: [(&str, Style); 7] = [
     ("image: empty stacks",     Style { push: 4, stack: 30, arithmetic: 25, returns: 20, to_r: 25, calls: 4, catches: 4, throws: 6, exits: 6, access: 8, rewrite: 0, jumps: 4, daring: 10 }),
 ];
 
+const RTI: u8 = 0x3C;
+/// The routines of the lines begin here, four bytes apart.
+const ROUTINES: RangeInclusive<u32> = 4..=60;
+
 /// Where the program's code goes: jumps and calls aim at these addresses.
 #[derive(Clone, Copy)]
 pub struct Arena {
@@ -61,8 +67,12 @@ impl Arena {
     }
 }
 
-/// A fragment that the state allows, or after some tries whatever came last.
+/// A fragment that the state allows, or after some tries whatever came last; where a line's routine begins, often one that
+/// suits there.
 pub fn fragment(random: &mut Random, taste: &Taste, machine: &Machine) -> Vec<u8> {
+    if machine.lines.block == 1 && ROUTINES.contains(&machine.program_counter) && random.percent(60) {
+        return routine(random, taste.arena);
+    }
     let daring = random.below(1000) < taste.style.daring;
     let mut fragment = candidate(random, taste, machine, daring);
     for _ in 0..12 {
@@ -94,6 +104,7 @@ fn candidate(random: &mut Random, taste: &Taste, machine: &Machine, daring: bool
         (style.rewrite, p + 2 <= CELLS),
         (style.jumps, true),
         (if reach == Reach::Alone { 1 } else { 8 }, true),
+        (6, machine.lines.block == 1 && s > 0),
     ];
     let weights = kinds.map(|(weight, suits)| if suits || daring { weight } else { 0 });
     match weighted(random, &weights) {
@@ -108,7 +119,24 @@ fn candidate(random: &mut Random, taste: &Taste, machine: &Machine, daring: bool
         8 => access(random, reach),
         9 => rewrite(random, here),
         10 => jump(random, arena, here),
-        _ => vec![PAUSE_CODE],
+        11 => vec![PAUSE_CODE],
+        _ => vec![RTI],
+    }
+}
+
+/// What a line's routine can be in four bytes: mostly it returns, or calls a word.
+pub fn routine(random: &mut Random, arena: Arena) -> Vec<u8> {
+    match random.below(20) {
+        0..=7 => vec![RTI],
+        8 | 9 => vec![0x20, 0x01, RTI],
+        10 => vec![0x08, 0x01, RTI],
+        11..=13 => call(random, arena),
+        14 => vec![0x3D],
+        15 => vec![0x09, RTI],
+        16 => vec![0x0C, RTI],
+        17 => vec![0x34, random.byte(), 0x0D],
+        18 => jump(random, arena, 0),
+        _ => vec![random.byte()],
     }
 }
 

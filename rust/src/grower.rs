@@ -4,8 +4,9 @@
 //! nobody has chosen yet, a fragment is picked that suits the state it is in. What was stored over is left as it is
 //! and carried out, so programs also run what they wrote.
 
-use crate::fragments::{ending, fragment, Taste};
+use crate::fragments::{ending, fragment, routine, Arena, Taste};
 use crate::model::codes::{fetch, PAUSE_CODE};
+use crate::model::entry::enter;
 use crate::model::place::width;
 use crate::model::reach::TASKS;
 use crate::model::state::{Answer, Machine, MEMORY};
@@ -22,6 +23,19 @@ pub struct Grown {
     pub steps: u64,
     /// The answer that ended the run of one machine.
     pub ended: Option<Answer>,
+}
+
+impl Grown {
+    /// Writes what was chosen; and mostly routines for lines that the model was not in, since a host may raise them on the way.
+    pub fn write(&self, random: &mut Random, arena: Arena, bytes: &mut [u8]) {
+        for line in (1..=15).filter(|_| random.percent(80)).collect::<Vec<_>>() {
+            let routine = routine(random, arena);
+            bytes[4 * line..][..routine.len()].copy_from_slice(&routine);
+        }
+        for &(address, byte) in &self.chosen {
+            bytes[address] = byte;
+        }
+    }
 }
 
 pub struct Grower<'a> {
@@ -78,6 +92,9 @@ impl<'a> Grower<'a> {
 
     /// Carries out a machine's next instruction, chosen now where it was not before, and gives its code.
     fn step(&mut self, machine: &mut Machine, taste: &Taste) -> Result<u8, Answer> {
+        if taste.reach.has_lines() {
+            enter(machine);
+        }
         let here = machine.program_counter as usize;
         if self.decided.get(here) == Some(&false) {
             let bytes = if self.grown.steps < self.target {

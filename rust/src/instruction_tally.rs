@@ -11,7 +11,7 @@ use crate::model::state::{Answer, Machine, MEMORY};
 use crate::throw_tally::ThrowTally;
 use crate::view_tally::ViewTally;
 
-const LOSERS: [&str; 3] = ["EXIT", "R>", "THROW"];
+const LOSERS: [&str; 4] = ["EXIT", "R>", "THROW", "RTI"];
 /// The sums and differences, whether they move the flag or leave it.
 const SUMS: [u8; 7] = [0x0E, 0x0F, 0x10, 0x11, 0x12, 0x14, 0x15];
 /// Those that leave it, and whether they carry or borrow on a cell.
@@ -22,8 +22,8 @@ pub struct InstructionTally {
     /// By first byte.
     codes: [u64; 256],
     /// By the instruction that dropped the level, as `LOSERS`.
-    frames_lost: [u64; 3],
-    catches_lost: [u64; 3],
+    frames_lost: [u64; LOSERS.len()],
+    catches_lost: [u64; LOSERS.len()],
     /// By the flag before each of `SUMS`.
     flags: [[u64; 2]; SUMS.len()],
     /// How often each of `LEAVERS` left a flag that was not its own carry or borrow.
@@ -36,8 +36,8 @@ impl Default for InstructionTally {
     fn default() -> InstructionTally {
         InstructionTally {
             codes: [0; 256],
-            frames_lost: [0; 3],
-            catches_lost: [0; 3],
+            frames_lost: [0; LOSERS.len()],
+            catches_lost: [0; LOSERS.len()],
             flags: Default::default(),
             left: Default::default(),
             throws: ThrowTally::default(),
@@ -64,6 +64,7 @@ impl Observer for InstructionTally {
             Some(Op::Exit) => 0,
             Some(Op::RFrom) => 1,
             Some(Op::Throw) => 2,
+            Some(Op::Rti) => 3,
             _ => return,
         };
         self.frames_lost[loser] += u64::from(after.s < before.s);
@@ -101,7 +102,7 @@ impl InstructionTally {
     }
 
     fn loss_counts(&self) -> Vec<Counted> {
-        let named = |what: &'static str, counts: [u64; 3]| {
+        let named = |what: &'static str, counts: [u64; LOSERS.len()]| {
             LOSERS.into_iter().zip(counts).map(move |(loser, count)| (format!("{what} by {loser}"), count))
         };
         named("frame", self.frames_lost).chain(named("catch", self.catches_lost)).collect()
@@ -129,7 +130,7 @@ impl InstructionTally {
 impl fmt::Display for InstructionTally {
     fn fmt(&self, f: &mut fmt::Formatter<'_>) -> fmt::Result {
         columns(f, "instructions completed", 6, 10, self.code_counts())?;
-        columns(f, "levels lost", 3, 26, self.loss_counts())?;
+        columns(f, "levels lost", 4, 22, self.loss_counts())?;
         columns(f, "flag before a sum or difference", 4, 22, self.flag_counts())?;
         columns(f, "flag other than their own carry or borrow", 3, 22, self.left_counts())?;
         columns(f, "last throws with no zero in them", 3, 30, self.throws.counts())?;

@@ -40,7 +40,7 @@ fn any_sum(random: &mut Random, truth: u64) -> u64 {
         0 => 0,
         1 => few,
         2 => MOST_SUM,
-        3 => MOST_SUM - few,
+        3 | 6 => MOST_SUM - few,
         4 => random.below(MOST_SUM as usize + 1) as u64,
         5 => random.pick(&[truth.saturating_sub(1), (truth + 1).min(MOST_SUM)]),
         _ => truth,

@@ -7,9 +7,13 @@ pub mod bench;
 pub mod codes;
 #[cfg(test)]
 mod edges;
+pub mod entry;
+pub mod host;
 pub mod image;
 #[cfg(test)]
 mod last_throw;
+#[cfg(test)]
+mod lines;
 pub mod links;
 pub mod observer;
 pub mod place;

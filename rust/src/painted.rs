@@ -2,19 +2,26 @@
 
 use std::convert::Infallible;
 
-use crate::boundary::{painted_bench, painted_read_image, painted_run_state, painted_run_tasks, Painted};
+use crate::boundary::{
+    painted_bench, painted_raise_line, painted_read_image, painted_run_state, painted_run_tasks, painted_set_mask,
+    Painted,
+};
 use crate::chains::{Lengths, Runner};
 use crate::comparison::{filled, Room, OUT};
+use crate::line_calls::LineCall;
 use crate::memories::Memory;
-use crate::model::reach::TASKS;
+use crate::model::reach::{Reach, TASKS};
 use crate::model::run::run;
 use crate::model::state::Machine;
 use crate::model::tasks::{run_tasks, Task};
-use crate::state_bytes::{numbers_in, spell, spell_tasks, READ_RESULT_BYTES, RESULT_BYTES, STATE_BYTES};
+use crate::state_bytes::{numbers_in, spell, spell_tasks, take_lines, READ_RESULT_BYTES, RESULT_BYTES, STATE_BYTES};
 use crate::task_chains::Pace;
 
 /// No byte has the colour of both: what is written in the one is seen on the other.
 const PAINTS: [u8; 2] = [0xA5, 0x5A];
+
+/// Calls for lines have few ways: of so many of each kind the stack is looked at, and the model makes the others.
+const ENOUGH: u64 = 12_000;
 
 /// What has been seen of one function.
 #[derive(Default)]
@@ -39,6 +46,8 @@ pub struct Depths {
     pub read_image: Depth,
     pub run_state: Depth,
     pub run_tasks: Depth,
+    pub raise_line: Depth,
+    pub set_mask: Depth,
 }
 
 impl Depths {
@@ -114,6 +123,27 @@ impl Runner for Depths {
         }
         Ok(())
     }
+
+    /// The lines are then as the call left them.
+    fn lines(&mut self, _reach: Reach, machine: &mut Machine, call: LineCall, length: usize) -> Result<(), Infallible> {
+        let mut state = filled(spell(machine), length);
+        let depth = match call {
+            LineCall::Raise(_) => &mut self.raise_line,
+            LineCall::SetMask(_) => &mut self.set_mask,
+        };
+        if depth.calls < ENOUGH {
+            depth.seen(|paint| match call {
+                LineCall::Raise(line) => painted_raise_line(paint, &mut state, line),
+                LineCall::SetMask(mask) => painted_set_mask(paint, &mut state, mask),
+            });
+        } else {
+            call.by_model(&mut state);
+        }
+        if length == STATE_BYTES {
+            take_lines(machine, &state);
+        }
+        Ok(())
+    }
 }
 
 #[cfg(test)]
@@ -129,5 +159,20 @@ mod tests {
         let Ok(runs) = any_tasks(&mut depths, &mut random);
         assert_eq!(depths.run_tasks.calls, runs);
         assert!(depths.run_tasks.deepest > 0);
+    }
+
+    #[test]
+    fn calls_for_lines_are_seen_and_change_the_lines() {
+        let mut depths = Depths::default();
+        let mut machine = Machine::fresh();
+        for (call, length) in [
+            (LineCall::Raise(5), STATE_BYTES),
+            (LineCall::SetMask(3), STATE_BYTES),
+            (LineCall::SetMask(7), STATE_BYTES - 1),
+        ] {
+            let Ok(()) = depths.lines(Reach::Alone, &mut machine, call, length);
+        }
+        assert_eq!((machine.lines.waiting, machine.lines.mask), (1 << 5, 3));
+        assert_eq!((depths.raise_line.calls, depths.set_mask.calls), (1, 2));
     }
 }

@@ -8,6 +8,7 @@ use crate::model::state::{Machine, MEMORY};
 use crate::model::sum::sum_of;
 use crate::model::tasks::{self, Task};
 use crate::speed_images::{speed_images, SpeedImage};
+use crate::speed_lines::{run_by_model, speed_lines, Held, SpeedLines};
 use crate::speed_states::{speed_states, SpeedState};
 use crate::speed_tasks::{speed_tasks, SpeedTasks};
 use crate::state_bytes::{spell, spell_result, spell_tasks, RESULT_BYTES};
@@ -19,6 +20,7 @@ const SMALL_CALLS: u64 = 1000;
 pub enum Work {
     Image(SpeedImage),
     State(SpeedState),
+    Lines(SpeedLines),
     Tasks(SpeedTasks),
 }
 
@@ -29,11 +31,14 @@ pub struct Contender {
     bench_entry: &'static str,
     state_entry: &'static str,
     tasks_entry: &'static str,
+    lines_entry: &'static str,
     bench: fn(&[u8], &mut [u8], &mut [u8]) -> u64,
     /// Gives the state, the memory and the result as bytes.
     run_state: fn(&SpeedState) -> Vec<u8>,
     /// As above, with the tasks.
     run_tasks: fn(&SpeedTasks) -> Vec<u8>,
+    /// As the first, with the last result of many.
+    run_lines: fn(&SpeedLines) -> Vec<u8>,
 }
 
 /// In the order of the table's columns; ratios are to the first.
@@ -43,33 +48,39 @@ pub const CONTENDERS: [Contender; 3] = [
         bench_entry: "plain_bench",
         state_entry: "plain_run_state",
         tasks_entry: "plain_run_tasks",
+        lines_entry: "plain_run_lines",
         bench: |image, memory, out| PLAIN_C.bench(image, memory, out),
         run_state: |work| foreign_state(PLAIN_C, work),
         run_tasks: |work| foreign_tasks(PLAIN_C, work),
+        run_lines: |work| foreign_lines(plain_run_lines, work),
     },
     Contender {
         name: "proved",
         bench_entry: "glidecotton_bench",
         state_entry: "glidecotton_run_state",
         tasks_entry: "glidecotton_run_tasks",
+        lines_entry: "proved_run_lines",
         bench: |image, memory, out| PROVED.bench(image, memory, out),
         run_state: |work| foreign_state(PROVED, work),
         run_tasks: |work| foreign_tasks(PROVED, work),
+        run_lines: |work| foreign_lines(proved_run_lines, work),
     },
     Contender {
         name: "model",
         bench_entry: "model_bench",
         state_entry: "model_run_state",
         tasks_entry: "model_run_tasks",
+        lines_entry: "model_run_lines",
         bench: model_bench,
         run_state: model_state,
         run_tasks: model_tasks,
+        run_lines: |work| model_run_lines(work).left(),
     },
 ];
 
 pub fn all_work() -> Vec<Work> {
     let alone = speed_images().into_iter().map(Work::Image).chain(speed_states().map(Work::State));
-    alone.chain(speed_tasks().into_iter().map(Work::Tasks)).collect()
+    alone.chain([Work::Lines(speed_lines())]).chain(speed_tasks().into_iter().map(Work::Tasks)).collect()
 }
 
 impl Work {
@@ -77,6 +88,7 @@ impl Work {
         match self {
             Work::Image(image) => image.name,
             Work::State(state) => state.name,
+            Work::Lines(lines) => lines.name,
             Work::Tasks(tasks) => &tasks.name,
         }
     }
@@ -87,6 +99,7 @@ impl Work {
             Work::Image(image) if image.per_step => (image.steps, "a step"),
             Work::Image(_) => (SMALL_CALLS, "a run"),
             Work::State(state) => (state.steps, "a step"),
+            Work::Lines(lines) => (lines.steps, "a step"),
             Work::Tasks(tasks) => (tasks.steps, "a step"),
         }
     }
@@ -103,6 +116,7 @@ impl Contender {
         match work {
             Work::Image(_) => self.bench_entry,
             Work::State(_) => self.state_entry,
+            Work::Lines(_) => self.lines_entry,
             Work::Tasks(_) => self.tasks_entry,
         }
     }
@@ -112,6 +126,7 @@ impl Contender {
         match work {
             Work::Image(image) => self.repeat_image(image),
             Work::State(state) => (self.run_state)(state),
+            Work::Lines(lines) => (self.run_lines)(lines),
             Work::Tasks(tasks) => (self.run_tasks)(tasks),
         }
     }
@@ -175,4 +190,31 @@ fn foreign_tasks(machine: Foreign, work: &SpeedTasks) -> Vec<u8> {
     let mut result = vec![0; RESULT_BYTES];
     machine.run_tasks(&mut tasks, &mut memory, work.quantum, work.steps, sum_of(&work.memory), &mut result);
     [tasks, memory, result].concat()
+}
+
+fn foreign_lines(run: fn(&mut Held), work: &SpeedLines) -> Vec<u8> {
+    let mut held = work.held();
+    run(&mut held);
+    held.left()
+}
+
+/// Keeps its plain name, as above; counted are the host's calls too.
+#[no_mangle]
+#[inline(never)]
+fn plain_run_lines(held: &mut Held) {
+    held.run(PLAIN_C);
+}
+
+/// As above.
+#[no_mangle]
+#[inline(never)]
+fn proved_run_lines(held: &mut Held) {
+    held.run(PROVED);
+}
+
+/// As above.
+#[no_mangle]
+#[inline(never)]
+fn model_run_lines(work: &SpeedLines) -> Held {
+    run_by_model(work)
 }

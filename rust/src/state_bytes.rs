@@ -1,9 +1,10 @@
 //! A whole state, and four tasks, as bytes, big endian, in the order in which the boundary passes it.
 
+use crate::model::host::{MASK, WAITING};
 use crate::model::image::Loaded;
 use crate::model::reach::TASKS;
 use crate::model::run::Outcome;
-use crate::model::state::{LastThrow, Machine, CATCHES, CATCH_CELLS, CELLS, FRAMES, LOCALS};
+use crate::model::state::{LastThrow, Lines, Machine, CATCHES, CATCH_CELLS, CELLS, FRAMES, LOCALS};
 use crate::model::tasks::Task;
 
 const POINTER: usize = 8;
@@ -12,12 +13,12 @@ const FRAME: usize = LOCALS * CELL + POINTER + CELL;
 const CATCH: usize = CATCH_CELLS * CELL + 2 * POINTER + CELL;
 
 pub const STATE_BYTES: usize =
-    2 * (CELLS * CELL + POINTER) + (FRAMES + 1) * FRAME + POINTER + (CATCHES + 1) * CATCH + POINTER + 4 * CELL;
+    2 * (CELLS * CELL + POINTER) + (FRAMES + 1) * FRAME + POINTER + (CATCHES + 1) * CATCH + POINTER + 7 * CELL;
 pub const TASKS_BYTES: usize = TASKS * (STATE_BYTES + POINTER);
 pub const RESULT_BYTES: usize = 4 * POINTER;
 pub const READ_RESULT_BYTES: usize = 2 * POINTER;
 
-const _: () = assert!(STATE_BYTES == 3536 && TASKS_BYTES == 14_176);
+const _: () = assert!(STATE_BYTES == 3548 && TASKS_BYTES == 14_224);
 
 pub fn spell(machine: &Machine) -> Vec<u8> {
     let mut bytes = Vec::with_capacity(STATE_BYTES);
@@ -39,8 +40,19 @@ pub fn spell(machine: &Machine) -> Vec<u8> {
     }
     put_pointer(&mut bytes, machine.e);
     let LastThrow { address, code } = machine.last_throw;
-    put_cells(&mut bytes, &[machine.program_counter, machine.flag, address, code]);
+    let Lines { mask, waiting, block } = machine.lines;
+    put_cells(&mut bytes, &[machine.program_counter, machine.flag, address, code, mask, waiting, block]);
     bytes
+}
+
+/// Gives the machine the mask and the waiting lines of its bytes, which is all that a host changes there.
+pub fn take_lines(machine: &mut Machine, bytes: &[u8]) {
+    machine.lines.mask = cell_in(&bytes[MASK]);
+    machine.lines.waiting = cell_in(&bytes[WAITING]);
+}
+
+fn cell_in(bytes: &[u8]) -> u32 {
+    bytes.iter().fold(0, |number, &byte| number << 8 | u32::from(byte))
 }
 
 /// Each task is its state and its kept number.
@@ -82,11 +94,21 @@ mod tests {
     use super::*;
 
     #[test]
-    fn the_last_throw_ends_a_state_and_a_kept_number_a_task() {
+    fn the_lines_end_a_state_and_a_kept_number_a_task() {
         let last_throw = LastThrow { address: 0x0102_0304, code: 0x0506_0708 };
-        let task = Task { machine: Machine { last_throw, ..Machine::fresh() }, kept: 9 };
+        let lines = Lines { mask: 0x090A_0B0C, waiting: 0x0D0E_0F10, block: 0x1112_1314 };
+        let task = Task { machine: Machine { last_throw, lines, ..Machine::fresh() }, kept: 21 };
         let bytes = spell_tasks(&[(); TASKS].map(|()| task.clone()));
         assert_eq!(bytes.len(), TASKS_BYTES);
-        assert_eq!(bytes[3528..3544], [1, 2, 3, 4, 5, 6, 7, 8, 0, 0, 0, 0, 0, 0, 0, 9]);
+        assert_eq!(bytes[3528..3548], std::array::from_fn::<u8, 20, _>(|at| at as u8 + 1));
+        assert_eq!(bytes[3548..3556], [0, 0, 0, 0, 0, 0, 0, 21]);
+    }
+
+    #[test]
+    fn what_a_host_changed_is_taken_back() {
+        let lines = Lines { mask: 0x090A_0B0C, waiting: 0x0D0E_0F10, block: 1 };
+        let mut machine = Machine { lines: Lines { block: 1, ..Lines::default() }, ..Machine::fresh() };
+        take_lines(&mut machine, &spell(&Machine { lines, ..Machine::fresh() }));
+        assert_eq!(machine.lines, lines);
     }
 }

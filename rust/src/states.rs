@@ -1,6 +1,6 @@
 //! States as a host could hand them in: well formed with anything in the cells that are not in use, or broken in one clause.
 
-use crate::model::state::{Catch, Frame, LastThrow, Machine, CATCHES, CELLS, FRAMES};
+use crate::model::state::{Catch, Frame, LastThrow, Lines, Machine, CATCHES, CELLS, FRAMES};
 use crate::operands::cell;
 use crate::random::Random;
 
@@ -21,6 +21,7 @@ pub fn well_formed(random: &mut Random) -> Machine {
         program_counter: 0,
         flag: random.below(2) as u32,
         last_throw: LastThrow { address: cell(random), code: cell(random) },
+        lines: any_lines(random),
     };
     for (level, copy) in rising(random, s, r).into_iter().enumerate() {
         machine.frames[level + 1].copy_of_r = copy;
@@ -35,6 +36,52 @@ pub fn well_formed(random: &mut Random) -> Machine {
         machine.catches.iter_mut().for_each(|catch| catch.throw_address %= 4096);
     }
     machine
+}
+
+/// A well-formed state in which lines are due or a routine is in progress, often with no room, or at the lowest level.
+pub fn with_lines(random: &mut Random) -> Machine {
+    let mut machine = well_formed(random);
+    let waiting = some_lines(random);
+    let let_in = if random.percent(80) { 1 << random.between(1, 15) } else { 0 };
+    let mask = any_mask(random) | let_in;
+    machine.lines = Lines { mask, waiting: waiting | let_in, block: u32::from(random.percent(40)) };
+    match random.below(10) {
+        0 => machine.r = CELLS,
+        1 => {
+            (machine.r, machine.s) = (random.between(FRAMES, CELLS - 1), FRAMES);
+            (1..=FRAMES).for_each(|level| machine.frames[level].copy_of_r = level - 1);
+        }
+        2 | 3 => (machine.s, machine.e) = (0, 0),
+        4 | 5 => (machine.r, machine.s, machine.e) = (CELLS, 0, 0),
+        _ => {}
+    }
+    machine
+}
+
+/// Often none waits, or a routine is in progress, so that many a state begins with its own instruction.
+fn any_lines(random: &mut Random) -> Lines {
+    let waiting = if random.percent(50) { 0 } else { some_lines(random) };
+    Lines { mask: any_mask(random), waiting, block: u32::from(random.percent(40)) }
+}
+
+/// One line, any, or all.
+pub fn some_lines(random: &mut Random) -> u32 {
+    match random.below(4) {
+        0 => 0xFFFE,
+        1 | 2 => 1 << random.between(1, 15),
+        _ => random.below(0x8000) as u32 * 2,
+    }
+}
+
+/// Lets all in, none, all but some, or any; bit 0 is as it comes.
+pub fn any_mask(random: &mut Random) -> u32 {
+    match random.below(8) {
+        0 | 1 => 0xFFFF,
+        2 => 0xFFFE,
+        3 => random.below(2) as u32,
+        4 | 5 => 0xFFFF & !some_lines(random),
+        _ => random.below(0x1_0000) as u32,
+    }
 }
 
 /// From 0 to the limit, with the ends more often than the middle.
@@ -79,10 +126,11 @@ fn stale_copy(random: &mut Random) -> usize {
 
 /// The clauses of well-formedness, each broken alone.
 #[rustfmt::skip]
-pub const CLAUSES: [&str; 12] = [
+pub const CLAUSES: [&str; 16] = [
     "broken: P", "broken: R", "broken: S", "broken: E", "broken: flag",
     "broken: copies of R equal", "broken: copies of R fall", "broken: last copy of R",
     "broken: copies of S equal", "broken: copies of S fall", "broken: last copy of S", "broken: copy of P",
+    "broken: mask", "broken: lines that wait", "broken: line 0 waits", "broken: block",
 ];
 
 /// A state that breaks the clause of that index and no other.
@@ -103,7 +151,11 @@ pub fn broken(random: &mut Random, clause: usize) -> Machine {
         8 => machine.catches[catch - 1].copy_of_s = machine.catches[catch].copy_of_s,
         9 => machine.catches[catch - 1].copy_of_s = beyond(random, machine.catches[catch].copy_of_s + 1),
         10 => machine.catches[e].copy_of_s = beyond(random, machine.s),
-        _ => machine.catches[any].copy_of_p = beyond(random, CELLS),
+        11 => machine.catches[any].copy_of_p = beyond(random, CELLS),
+        12 => machine.lines.mask = too_many_bits(random),
+        13 => machine.lines.waiting = too_many_bits(random) & !1,
+        14 => machine.lines.waiting |= 1,
+        _ => machine.lines.block = random.pick(&[2, 3, 0x100, 0x1_0000, 0x8000_0000, u32::MAX]),
     }
     machine
 }
@@ -115,6 +167,15 @@ fn with_levels(random: &mut Random) -> Machine {
         if machine.s >= 2 && machine.e >= 2 {
             return machine;
         }
+    }
+}
+
+/// More than 16 bits: in 16 some of these would be taken.
+fn too_many_bits(random: &mut Random) -> u32 {
+    match random.below(3) {
+        0 => 0x1_0000,
+        1 => random.between(0x1_0000, u32::MAX as usize) as u32,
+        _ => random.pick(&[0x1_FFFE, 0x8000_0000, u32::MAX]),
     }
 }
 
@@ -136,6 +197,7 @@ mod tests {
         let mut random = Random::new(1);
         for _ in 0..2000 {
             assert!(well_formed(&mut random).is_well_formed());
+            assert!(with_lines(&mut random).is_well_formed());
             for (clause, name) in CLAUSES.iter().enumerate() {
                 assert!(!broken(&mut random, clause).is_well_formed(), "{name}");
             }

@@ -6,13 +6,16 @@ use std::fmt;
 use crate::chains::Lengths;
 use crate::counts::{columns, grouped, seldom, Counted, Named};
 use crate::instruction_tally::InstructionTally;
-use crate::model::state::Answer;
+use crate::line_calls::LineCall;
+use crate::lines_tally::LinesTally;
+use crate::model::reach::Reach;
+use crate::model::state::{Answer, Machine};
 use crate::sum_tally::SumTally;
 use crate::turn_tally::TurnTally;
 
 /// Each code, answer, way of losing a level, flag before a sum or difference, last throw that is set or left, access to
-/// the cells, answer of the reader, memory sum that is handed in or back and store that moves or leaves one is to be seen
-/// at least so often.
+/// the cells, answer of the reader, memory sum that is handed in or back, store that moves or leaves one, entry of a line,
+/// instruction that has to do with one and call of the host is to be seen at least so often.
 const LEAST: u64 = 500;
 /// Half of the programs run for at least so many steps.
 const LEAST_MEDIAN: u64 = 20;
@@ -23,7 +26,7 @@ const READS: [&str; 5] = ["0", "14", "2 for the memory", "2 for the state", "2 f
 pub struct Tally {
     /// Of runs of one task.
     pub instructions: InstructionTally,
-    answers: [u64; 15],
+    answers: Named,
     /// Kinds of images, states and calls that were compared.
     kinds: BTreeMap<&'static str, u64>,
     /// Steps of each program.
@@ -31,6 +34,8 @@ pub struct Tally {
     reads: Named,
     /// Of runs of states: an image that is run hands out no sum.
     pub sums: SumTally,
+    /// Of runs of states, and of what a host does between them.
+    pub lines: LinesTally,
     /// Of runs of four tasks.
     pub turns: TurnTally,
 }
@@ -39,11 +44,12 @@ impl Default for Tally {
     fn default() -> Tally {
         Tally {
             instructions: InstructionTally::default(),
-            answers: [0; 15],
+            answers: Named::new("answers", (0..=14).chain([16])),
             kinds: BTreeMap::new(),
             steps: Vec::new(),
             reads: Named::new("images read, by the answer", READS),
             sums: SumTally::alone(),
+            lines: LinesTally::alone(),
             turns: TurnTally::default(),
         }
     }
@@ -51,7 +57,13 @@ impl Default for Tally {
 
 impl Tally {
     pub fn answer(&mut self, answer: Answer) {
-        self.answers[answer.number() as usize] += 1;
+        self.answers.saw(answer.number());
+    }
+
+    /// A host is about to make a call on a state of this length, of a machine alone or of a task.
+    pub fn called(&mut self, reach: Reach, machine: &Machine, call: LineCall, length: usize) {
+        let lines = if reach == Reach::Alone { &mut self.lines } else { &mut self.turns.lines };
+        lines.called(machine, call, length);
     }
 
     pub fn kind(&mut self, kind: &'static str) {
@@ -79,22 +91,19 @@ impl Tally {
         steps.get(steps.len() / 2).copied().unwrap_or(0)
     }
 
-    fn answer_counts(&self) -> Vec<Counted> {
-        self.answers.iter().enumerate().map(|(number, &count)| (number.to_string(), count)).collect()
-    }
-
     fn kind_counts(&self) -> Vec<Counted> {
         self.kinds.iter().map(|(kind, &count)| (kind.to_string(), count)).collect()
     }
 
     /// The lists of names, with the columns and the width of each.
     fn named(&self) -> Vec<(&Named, usize, usize)> {
-        [vec![(&self.reads, 3, 26)], self.sums.named().to_vec()].concat()
+        [vec![(&self.reads, 3, 26)], self.sums.named().to_vec(), self.lines.named().to_vec()].concat()
     }
 
     /// What was seen too seldom; nothing where the comparison has looked at enough.
     pub fn shortfalls(&self) -> Vec<String> {
-        let mut short = seldom([self.instructions.all(), self.answer_counts()].concat(), LEAST);
+        let mut short = seldom(self.instructions.all(), LEAST);
+        short.extend(self.answers.seldom(LEAST));
         if self.median() < LEAST_MEDIAN {
             short.push(format!("the median program takes {} steps, not {LEAST_MEDIAN}", self.median()));
         }
@@ -107,7 +116,7 @@ impl Tally {
 impl fmt::Display for Tally {
     fn fmt(&self, f: &mut fmt::Formatter<'_>) -> fmt::Result {
         columns(f, "compared", 3, 26, self.kind_counts())?;
-        columns(f, "answers", 6, 10, self.answer_counts())?;
+        self.answers.print(f, 6, 10)?;
         write!(f, "{}", self.instructions)?;
         let most = self.steps.iter().max().copied().unwrap_or(0);
         writeln!(f, "steps of a program\n  median {}   most {}", grouped(self.median()), grouped(most))?;

@@ -1,9 +1,10 @@
 //! Runs of four tasks: any instructions, programs in turns, loops, and calls that are not as they should be.
 
 use crate::assembler::assemble;
-use crate::chains::{aim, slices, Lengths, Runner};
+use crate::chains::{aim, first_instruction, lay_line_codes, slices, Lengths, Runner};
 use crate::fragments::{any_access, Arena, Taste, STYLES};
 use crate::grower::Grower;
+use crate::line_calls::some_calls;
 use crate::memories::{bytes, refused_sum, Memory};
 use crate::model::reach::{Reach, PART, SHARED, TASKS};
 use crate::model::run::MAX_BUDGET;
@@ -13,22 +14,24 @@ use crate::model::tasks::{run_tasks, Task, READY};
 use crate::operands::{around, in_view, over_an_end_of_view, seam};
 use crate::random::Random;
 use crate::state_bytes::{RESULT_BYTES, TASKS_BYTES};
-use crate::states::{broken, well_formed, CLAUSES};
+use crate::states::{broken, well_formed, with_lines, CLAUSES};
 
 const ANY_INSTRUCTIONS: &str = "tasks: any instructions";
+const WITH_LINES: &str = "tasks: with lines";
 const LOOPS: &str = "tasks: loops";
 const CHAIN: &str = "tasks: run in a chain";
 /// The kinds of runs; the first are the wrong calls.
 #[rustfmt::skip]
-pub const KINDS: [&str; 12] = [
+pub const KINDS: [&str; 13] = [
     "tasks: of a wrong length", "tasks: wrong result", "tasks: wrong memory", "tasks: wrong budget", "tasks: wrong quantum",
     "tasks: wrong kept number", "tasks: broken, ready", "tasks: broken, not ready", "tasks: wrong sum",
-    ANY_INSTRUCTIONS, LOOPS, CHAIN,
+    ANY_INSTRUCTIONS, WITH_LINES, LOOPS, CHAIN,
 ];
+const BROKEN: [usize; 2] = [6, 7];
 const WRONG_SUM: usize = 8;
 
 /// The numbers of the answers that a task can leave with.
-pub const ANSWERS_KEPT: [u64; 13] = [0, 3, 4, 5, 6, 7, 8, 9, 10, 11, 12, 13, 17];
+pub const ANSWERS_KEPT: [u64; 14] = [0, 3, 4, 5, 6, 7, 8, 9, 10, 11, 12, 13, 16, 17];
 
 /// Work that is sure to be over after so many steps may be given any budget.
 const SOON: u64 = 10_000;
@@ -42,7 +45,7 @@ pub struct Pace {
 
 /// Tasks of a random kind; gives the number of runs they took.
 pub fn any_tasks<R: Runner>(runner: &mut R, random: &mut Random) -> Result<u64, R::Failure> {
-    match random.below(20) {
+    match random.below(23) {
         0..=3 => {
             let tasks = good_tasks(random);
             let mut memory = Memory::any(random);
@@ -51,6 +54,7 @@ pub fn any_tasks<R: Runner>(runner: &mut R, random: &mut Random) -> Result<u64, 
         }
         4..=14 => any_instructions(runner, random),
         15 => loops(runner, random),
+        16..=18 => any_entries(runner, random),
         _ => chain(runner, random),
     }
 }
@@ -66,19 +70,20 @@ fn wrong_call<R: Runner>(
     let mut lengths = Lengths::OF_TASKS;
     let mut pace = Pace { quantum: 3, budget: 5 };
     let wrong = random.below(WRONG_SUM + 2).min(WRONG_SUM);
-    let task = &mut tasks[random.below(TASKS)];
+    let number = random.below(TASKS);
+    let task = &mut tasks[number];
     match wrong {
         0 => lengths.machines = random.pick(&[0, 1, TASKS_BYTES / TASKS, TASKS_BYTES - 1, TASKS_BYTES + 1]),
         1 => lengths.result = random.pick(&[0, 1, 8, 24, RESULT_BYTES - 1, RESULT_BYTES + 1]),
         2 => lengths.memory = random.pick(&[0, 1, SHARED, MEMORY - 1, MEMORY + 1, 2 * MEMORY]),
         3 => pace.budget = random.pick(&[1_000_001, 1_000_001, 1 << 32, (1 << 32) + 5, 1 << 63, u64::MAX]),
         4 => pace.quantum = random.pick(&[0, 0, 1_001, 1_001, (1 << 32) + 3, u64::MAX]),
-        5 => task.kept = random.pick(&[2, 14, 15, 16, 18, 256, 257, 1 << 32, (1 << 32) + 1, 1 << 63, u64::MAX]),
+        5 => task.kept = random.pick(&[2, 14, 15, 18, 19, 256, 257, 1 << 32, (1 << 32) + 1, 1 << 63, u64::MAX]),
         WRONG_SUM => {}
         broken_task => {
             let clause = random.below(CLAUSES.len());
             task.machine = broken(random, clause);
-            task.kept = if broken_task == 6 { READY } else { random.pick(&ANSWERS_KEPT) };
+            task.kept = if broken_task == BROKEN[0] { READY } else { random.pick(&ANSWERS_KEPT) };
         }
     }
     let own = memory.sum;
@@ -87,6 +92,9 @@ fn wrong_call<R: Runner>(
     }
     runner.tasks(KINDS[wrong], &mut tasks, memory, pace, lengths)?;
     memory.sum = own;
+    if BROKEN.contains(&wrong) {
+        some_calls(runner, random, Reach::Task(number), &mut tasks[number].machine)?;
+    }
     Ok(())
 }
 
@@ -103,8 +111,11 @@ fn any_instructions<R: Runner>(runner: &mut R, random: &mut Random) -> Result<u6
             (random.below(SHARED) as u32, code, data(random, number, width))
         };
         task.machine.program_counter = at;
-        if let Some(byte) = bytes.get_mut(at as usize) {
-            *byte = code;
+        let first = if number == 0 { first_instruction(&task.machine) } else { at as usize };
+        for place in [at as usize, first] {
+            if let Some(byte) = bytes.get_mut(place) {
+                *byte = code;
+            }
         }
         if random.percent(90) {
             aim(random, &mut task.machine, code, data, &bytes);
@@ -116,12 +127,33 @@ fn any_instructions<R: Runner>(runner: &mut R, random: &mut Random) -> Result<u6
     Ok(1)
 }
 
+/// Tasks with lines at instructions that have to do with them, few of which can go on for long.
+fn any_entries<R: Runner>(runner: &mut R, random: &mut Random) -> Result<u64, R::Failure> {
+    let mut tasks = [(); TASKS].map(|()| Task { machine: with_lines(random), kept: kept(random) });
+    let mut bytes = bytes(random);
+    for (number, task) in tasks.iter_mut().enumerate() {
+        task.machine.program_counter = random.between(64, SHARED - 1) as u32;
+        lay_line_codes(random, &mut bytes, &task.machine);
+        if random.percent(30) {
+            some_calls(runner, random, Reach::Task(number), &mut task.machine)?;
+        }
+        // Often task 0 has nobody to take turns with.
+        if number > 0 && random.percent(40) {
+            task.kept = random.pick(&ANSWERS_KEPT);
+        }
+    }
+    let pace = Pace { quantum: random.pick(&[1, 2, 3, 4, 1_000]), budget: random.between(0, 12) as u64 };
+    let mut memory = Memory::with_any_sum(random, bytes);
+    runner.tasks(WITH_LINES, &mut tasks, &mut memory, pace, Lengths::OF_TASKS)?;
+    Ok(1)
+}
+
 /// An address for so many bytes: around a seam, across the end of shared memory, in view, or partly in view.
 fn data(random: &mut Random, number: usize, bytes: usize) -> u32 {
-    match random.below(14) {
+    match random.below(17) {
         0..=5 => near(random, number),
         6 => in_view(random, bytes),
-        7..=10 => (SHARED - random.between(1, bytes.max(2) - 1)) as u32,
+        7..=13 => (SHARED - random.between(1, bytes.max(2) - 1)) as u32,
         _ => over_an_end_of_view(random, bytes),
     }
 }
@@ -177,7 +209,7 @@ fn looping(random: &mut Random) -> Vec<u8> {
     assemble(&format!("here: {before}{pause}{after}BRA here"))
 }
 
-/// Several runs of four tasks, one after another, in which the host changes a byte and makes some ready again.
+/// Several runs of four tasks, one after another, between which the host changes lines and a byte and makes some ready again.
 fn chain<R: Runner>(runner: &mut R, random: &mut Random) -> Result<u64, R::Failure> {
     let mut tasks = if random.percent(15) { [(); TASKS].map(|()| Task::fresh()) } else { good_tasks(random) };
     let mut bytes = bytes(random);
@@ -187,6 +219,7 @@ fn chain<R: Runner>(runner: &mut R, random: &mut Random) -> Result<u64, R::Failu
     }
     let mut runs = 0;
     for _ in 0..random.between(1, 5) {
+        raise_some(runner, random, &mut tasks)?;
         let quantum = quantum(random);
         let tastes = [0, 1, 2, 3].map(|number| {
             let (_, style) = random.pick(&STYLES);
@@ -195,9 +228,7 @@ fn chain<R: Runner>(runner: &mut R, random: &mut Random) -> Result<u64, R::Failu
         let copy: Box<[u8; MEMORY]> = bytes.clone().into_boxed_slice().try_into().expect("a memory's length");
         let target = random.between(1, 200) as u64;
         let grown = Grower::new(random, copy, target).grow_turns(tasks.clone(), &tastes, quantum);
-        for (address, byte) in grown.chosen {
-            bytes[address] = byte;
-        }
+        grown.write(random, arenas[0], &mut bytes);
         let budget = budget(random, &tasks, &bytes, quantum, grown.steps);
         let mut memory = Memory::with_any_sum(random, bytes);
         for slice in slices(random, budget) {
@@ -208,6 +239,7 @@ fn chain<R: Runner>(runner: &mut R, random: &mut Random) -> Result<u64, R::Failu
                 None => wrong_call(runner, random, tasks.clone(), &mut memory)?,
             }
             runs += 1;
+            raise_some(runner, random, &mut tasks)?;
         }
         bytes = memory.bytes;
         let elsewhere = random.below(MEMORY);
@@ -220,6 +252,16 @@ fn chain<R: Runner>(runner: &mut R, random: &mut Random) -> Result<u64, R::Failu
         }
     }
     Ok(runs)
+}
+
+/// Calls for the lines of task 0, and now and then for those of the others.
+fn raise_some<R: Runner>(runner: &mut R, random: &mut Random, tasks: &mut [Task; TASKS]) -> Result<(), R::Failure> {
+    for (number, task) in tasks.iter_mut().enumerate() {
+        if number == 0 || random.percent(20) {
+            some_calls(runner, random, Reach::Task(number), &mut task.machine)?;
+        }
+    }
+    Ok(())
 }
 
 /// Around where growth stopped; or a large one where every task leaves soon.

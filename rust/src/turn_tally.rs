@@ -6,9 +6,11 @@ use std::ops::Range;
 
 use crate::counts::{grouped, seldom, stretch, Named, Stretch};
 use crate::instruction_tally::InstructionTally;
+use crate::lines_tally::LinesTally;
 use crate::model::codes::PAUSE_CODE;
 use crate::model::observer::{Observer, Seen};
 use crate::model::reach::{Reach, TASKS};
+use crate::model::run::Outcome;
 use crate::model::state::{Answer, LastThrow, Machine, MEMORY};
 use crate::model::tasks::Task;
 use crate::model::turn::Turn;
@@ -29,9 +31,9 @@ const TOUCHES: [&str; 3] = ["instruction", "read", "write"];
 const TOUCHERS: [&str; 2] = ["task 0", "another task"];
 
 #[rustfmt::skip]
-const ENDS: [&str; 23] = [
+const ENDS: [&str; 24] = [
     "PAUSE", "PAUSE, quantum spent", "PAUSE, budget spent", "quantum spent", "budget spent", "quantum and budget spent",
-    "0", "3 by a first byte", "3 by a further byte", "4", "5", "6", "7", "8", "9", "10", "11", "12", "13",
+    "0", "3 by a first byte", "3 by a further byte", "4", "5", "6", "7", "8", "9", "10", "11", "12", "13", "16",
     "17 by a first byte", "17 by a further byte", "17 by a read", "17 by a write",
 ];
 #[rustfmt::skip]
@@ -71,6 +73,7 @@ pub struct TurnTally {
     throwers: Named,
     instructions: InstructionTally,
     pub sums: SumTally,
+    pub lines: LinesTally,
     /// Of the instruction that is being tried.
     touches: Option<Touches>,
     last_code: u8,
@@ -101,6 +104,7 @@ impl Default for TurnTally {
             throwers: Named::new("THROW while another has a last throw, by the task's number", 0..TASKS),
             instructions: InstructionTally::default(),
             sums: SumTally::in_turns(),
+            lines: LinesTally::in_turns(),
             touches: None,
             last_code: 0,
             before: None,
@@ -128,11 +132,18 @@ impl TurnTally {
         self.quanta.saw(stretch(&QUANTA, pace.quantum));
         self.budgets.saw(stretch(&BUDGETS, pace.budget));
         self.before = None;
+        self.lines.begins();
         self.has_thrown = tasks.each_ref().map(|task| task.machine.last_throw != LastThrow::default());
     }
 
     pub fn answer(&mut self, answer: Answer) {
         self.answers.saw(answer.number());
+    }
+
+    /// A run is over that was handed some tasks and left others.
+    pub fn ran(&mut self, handed: &[Task; TASKS], left: &[Task; TASKS], outcome: Outcome) {
+        self.lines.ran(&left[0].machine, outcome);
+        self.lines.ran_tasks(handed, outcome);
     }
 
     fn saw_touch(&mut self, number: usize, bytes: &Range<usize>, touch: &str) {
@@ -209,15 +220,20 @@ impl TurnTally {
             (&self.crossings, 3, 27),
             (&self.throwers, 6, 10),
         ];
-        [&of_turns[..], &self.sums.named()].concat()
+        [&of_turns[..], &self.sums.named(), &self.lines.named()].concat()
     }
 }
 
 impl Observer for TurnTally {
+    fn coming(&mut self, reach: Reach, machine: &Machine, memory: &[u8; MEMORY]) {
+        self.lines.coming(reach, machine, memory);
+    }
+
     fn trying(&mut self, reach: Reach, machine: &Machine, memory: &[u8; MEMORY]) {
         let Reach::Task(number) = reach else { return };
         self.instructions.trying(reach, machine, memory);
         self.sums.trying(reach, machine, memory);
+        self.lines.trying(reach, machine, memory);
         let touches = Touches::of(number, machine, memory);
         self.saw_touch(number, &touches.code, "instruction");
         self.touches = Some(touches);
@@ -226,6 +242,7 @@ impl Observer for TurnTally {
     fn completed(&mut self, code: u8, before: Seen, after: Seen) {
         self.instructions.completed(code, before, after);
         self.sums.completed(code, before, after);
+        self.lines.completed(code, before, after);
         if throws(code, before) {
             self.saw_throw();
         }
@@ -236,12 +253,14 @@ impl Observer for TurnTally {
     fn refused(&mut self, code: u8, before: Seen, answer: Answer) {
         self.instructions.refused(code, before, answer);
         self.sums.refused(code, before, answer);
+        self.lines.refused(code, before, answer);
     }
 
     fn turn_over(&mut self, number: usize, turn: Turn, quantum: u64, left: u64) {
         self.saw_end(turn, quantum, left);
         self.saw_next(number);
         self.saw_data();
+        self.lines.turn_over(number, turn, quantum, left);
     }
 }
 

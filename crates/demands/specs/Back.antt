@@ -24,10 +24,11 @@ pub record Loses (a o w v z : World) : Type 0 where
 abbrev pub through : {a o w v z b : World} → Loses a o w v z → History z b → History a b
 through l after = joined (l .before) (then (step (l .reach) (l .cost) (l .carried)) (joined (l .between) (then (l .last) after)))
 
--- the instruction at the counter of v, which led to z, is EXIT, R> or THROW of non-zero; after a throw P is what it was at o,
+-- the instruction at the counter of v, which led to z, is EXIT, RTI (which does all that EXIT does), R> or THROW of non-zero; after a throw P is what it was at o,
 -- before the CATCH, and the code thrown is on top
 pub data Way (o v z : World) : Type 0 where
   by-exit : codeAt v ≡ 0x3D → Way o v z
+  by-return : codeAt v ≡ 0x3C → Way o v z
   by-pop : codeAt v ≡ 0x09 → Way o v z
   by-throw : codeAt v ≡ 0x0D → (top (v .machine) ≡ 0 → ⊥) → z .machine .p ≡ o .machine .p → top (z .machine) ≡ top (v .machine) → Way o v z
 
@@ -39,7 +40,7 @@ pub record Back (o v z : World) : Type 0 where
   -- the cells in view are as they were
   pub locals-back : localsInView (z .machine) ≡ localsInView (o .machine)
   pub cells-back : cellsInView (z .machine) ≡ cellsInView (o .machine)
-  -- it came by one of the three ways
+  -- it came by one of these ways
   pub way : Way o v z
 
 -- that there is such a loss, from a machine that a run accepts, by the instruction with this code, and the machine is back

@@ -7,7 +7,7 @@ use Rattle.plain.specs.Choice.{pick, both}
 use Rattle.plain.specs.Zeros.{padded}
 use Rattle.machine.specs.Limits.{memoryLength}
 use Rattle.machine.specs.State.{machineWith}
-use Rattle.demands.specs.History.{World, world, codeAt, step, host, others, History, here, then}
+use Rattle.demands.specs.History.{World, world, codeAt, step, enters, host, others, History, here, then}
 use Rattle.demands.specs.Walk.{ahead}
 
 -- a code, and parameter cells with which it takes the flag from 0 to 1
@@ -35,7 +35,8 @@ moves code (x ∷ xs) = pick (eqb code (x .code)) true (moves code xs)
 abbrev pub NoneMoves : {w v : World} → History w v → Type 0
 NoneMoves here = Unit {0}
 NoneMoves {w} (then (step reach k e) rest) = (T (moves (codeAt w) movers) → ⊥) × NoneMoves rest
-NoneMoves (then (host e) rest) = NoneMoves rest
+NoneMoves (then (enters n e kept is) rest) = NoneMoves rest
+NoneMoves (then (host mask waiting e) rest) = NoneMoves rest
 NoneMoves (then (others e) rest) = NoneMoves rest
 
 -- each of them does

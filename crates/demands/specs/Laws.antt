@@ -14,8 +14,6 @@ pub mod Alone
 pub mod Refused
 -- a step that no test refuses is carried out
 pub mod Carried
--- runs that start with counts
-pub mod Added
 -- restored links show the same cells
 pub mod Views
 -- the cell that a step leaves on top

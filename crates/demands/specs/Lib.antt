@@ -1,9 +1,9 @@
 -- what happens to a machine and its memory, one moment after another
 pub mod History
+-- interrupt lines in a history
+pub mod Lines
 -- the course of a run, and the reason why it ends
 pub mod Course
--- what a run leaves, counted on from an earlier one
-pub mod Added
 -- which of several tests gives the answer
 pub mod Lowest
 -- demand 1: what a run of any input leaves

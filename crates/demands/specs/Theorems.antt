@@ -16,7 +16,7 @@ pub mod Calls
 pub mod Summed
 -- a CATCH that nothing refuses is carried out
 pub mod Carried
--- demand 3 on three starred cases
+-- demand 3 on three starred cases, and by an RTI
 pub mod Cases
 -- demand 3 over two runs with the host between
 pub mod Worked
@@ -24,6 +24,8 @@ pub mod Worked
 pub mod Flag
 -- a machine notes the last THROW of non-zero, and nothing else
 pub mod Thrown
+-- interrupt lines: one routine at a time, the lowest first, each request once, and nothing where none may enter
+pub mod Lines
 -- sums and differences of double length
 pub mod Double
 -- what they say of a sample

@@ -118,4 +118,11 @@ fn main() {
         states::nested([1, 2, 3], [1, 3], 63),
     );
     with_state(b"copy of P 64", states::nested([1, 2, 3], [1, 2], 64));
+    with_state(b"mask 65535", states::lined(0xFFFF, 0, 0));
+    with_state(b"mask 65536", states::lined(0x10000, 0, 0));
+    with_state(b"waiting 65534", states::lined(0, 0xFFFE, 0));
+    with_state(b"line 0 waiting", states::lined(0, 1, 0));
+    with_state(b"waiting 65536", states::lined(0, 0x10000, 0));
+    with_state(b"block 1", states::lined(0xFFFF, 0xFFFE, 1));
+    with_state(b"block 2", states::lined(0, 0, 2));
 }

@@ -1,8 +1,9 @@
-// States that break one clause of well-formedness each, and two that break none.
+// States that break one clause of well-formedness each, and some that break none.
 use links::Frame;
 use links::Level;
 use links::Links;
 use machine::LastThrow;
+use machine::Lines;
 use machine::Machine;
 
 fn frame(r: usize) -> Frame {
@@ -59,5 +60,17 @@ pub(crate) fn noting(address: u32, code: u32) -> Machine {
     let thrown = LastThrow { address, code };
     let mut machine = Machine::fresh();
     machine.thrown = thrown;
+    machine
+}
+
+// A fresh machine but for its interrupt lines.
+pub(crate) fn lined(mask: u32, waiting: u32, block: u32) -> Machine {
+    let lines = Lines {
+        mask,
+        waiting,
+        block,
+    };
+    let mut machine = Machine::fresh();
+    machine.lines = lines;
     machine
 }

@@ -51,7 +51,16 @@ module _ (file : List ℕ) (spans : Spans) where
       → _≡_ {A = Returned}
       (record {
         says = gives tt;
-        machine = record { cells = cells; p = spans .cells .count; links = fresh .links; counter = fresh .counter; flag = fresh .flag; thrown = fresh .thrown };
+        machine =
+            record {
+              cells = cells;
+              p = spans .cells .count;
+              links = fresh .links;
+              counter = fresh .counter;
+              flag = fresh .flag;
+              thrown = fresh .thrown;
+              lines = fresh .lines;
+            };
         budget = budget;
         sum = sum;
       })
@@ -62,7 +71,16 @@ module _ (file : List ℕ) (spans : Spans) where
       let zeros : sum ≡ sumOf (filled (imageIn file spans)) = s ∙ sym (sum-padded memoryLength (valuesIn file Memory (spans .memory))) in
       λ t. record {
         says = gives tt;
-        machine = record { cells = c t; p = sym p t; links = f t .links; counter = f t .counter; flag = f t .flag; thrown = f t .thrown };
+        machine =
+            record {
+              cells = c t;
+              p = sym p t;
+              links = f t .links;
+              counter = f t .counter;
+              flag = f t .flag;
+              thrown = f t .thrown;
+              lines = f t .lines;
+            };
         budget = b t;
         sum = zeros t;
       }

@@ -1,5 +1,5 @@
--- The tests before an instruction is carried out, in document 01's order, with request P1's number 17 for bytes of another's part:
--- the first that holds gives the answer.
+-- The tests before an instruction is carried out, in document 01's order, with request P1's number 17 for bytes of another's part and
+-- request P4's number 16 for RTI: the first that holds gives the answer.
 use mathlib.Core.Bool.{Bool, true, false}
 use mathlib.Core.List.{List, [], _∷_}
 use Prim.Native.Nat.{ℕ, _+_}
@@ -11,7 +11,7 @@ use Rattle.links.specs.Actions.{Act, still, push, call, catch, exit, pop, throw
 use Rattle.machine.specs.Reach.{barOf, isOutside, isForeign}
 use Rattle.machine.specs.Codes.{entryAt}
 use Rattle.machine.specs.Fetch.{Instruction}
-use Rattle.machine.specs.Rows.{Row, Lack, aReturnCell, aPlace, aDivisor, Lack-discrete}
+use Rattle.machine.specs.Rows.{Row, Lack, aReturnCell, aPlace, aDivisor, aRoutine, Lack-discrete}
 use Rattle.machine.specs.declared.Machine.{Machine}
 
 -- what an action needs of the linked stacks
@@ -61,6 +61,8 @@ tests i m row =
     test 0 (both (wants row aFrame) (eqb (m .links .s) 0)) ∷
     -- unknown code
     test 4 (not (entryAt (i .code) .known)) ∷
+    -- RTI with no routine in progress, or with S = 0
+    test 16 (lacks row aRoutine) ∷
     -- fewer parameter cells than the code takes
     test 5 (ltb (m .p) (entryAt (i .code) .takes)) ∷
     -- R> or R@ with R = 0

@@ -23,7 +23,7 @@ pub data Jump : Type 0 where
 
 -- those on the return, subroutine and exception stacks
 pub data Link : Type 0 where
-  >R R-AT R> CATCH RESETSP THROW JSL JSR EXIT : Link
+  >R R-AT R> CATCH RESETSP THROW JSL JSR EXIT RTI : Link
 
 -- all of them, by what they share: arithmetic on one cell or two, fetches and stores by width
 pub data Op : Type 0 where
@@ -136,7 +136,7 @@ table =
     entry (LINK JSR) none 1 0 2 ∷  -- 39 JSR
     unknown ∷  -- 3A unknown
     unknown ∷  -- 3B unknown
-    unknown ∷  -- 3C unknown
+    entry (LINK RTI) none 0 0 2 ∷  -- 3C RTI
     entry (LINK EXIT) none 0 0 2 ∷  -- 3D EXIT
     entry (SHUFFLE PAUSE) none 0 0 1 ∷ []  -- 3E PAUSE
 

@@ -5,11 +5,17 @@ use Rattle.plain.specs.All.{All}
 use Rattle.links.specs.Fits.{CellFits, PointerFits, LinksFit}
 use Rattle.machine.specs.State.{Whole}
 use Rattle.machine.specs.declared.LastThrow.{LastThrow}
+use Rattle.machine.specs.declared.Lines.{Lines}
 use Rattle.machine.specs.declared.Machine.{Machine}
 
 pub record ThrowFits (t : LastThrow) : Type 0 where
   pub address-fits : CellFits (t .address)
   pub code-fits : CellFits (t .code)
+
+pub record LinesFit (l : Lines) : Type 0 where
+  pub mask-fits : CellFits (l .mask)
+  pub waiting-fits : CellFits (l .waiting)
+  pub block-fits : CellFits (l .block)
 
 pub record Fits (m : Machine) : Type 0 where
   pub cells-fit : All CellFits (m .cells)
@@ -18,6 +24,7 @@ pub record Fits (m : Machine) : Type 0 where
   pub counter-fits : CellFits (m .counter)
   pub flag-fits : CellFits (m .flag)
   pub thrown-fits : ThrowFits (m .thrown)
+  pub lines-fit : LinesFit (m .lines)
 
 -- every byte of a memory is one
 abbrev pub AllBytes : List ℕ → Type 0

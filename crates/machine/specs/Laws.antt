@@ -24,8 +24,20 @@ pub mod Told
 pub mod Puts
 -- the tests let through only actions that the linked stacks allow
 pub mod Granted
+-- a line that enters: what it finds, and what it leaves
+pub mod Lines
 -- a step keeps a well-formed state well formed
 pub mod Kept
+-- RTI alone releases the block
+pub mod Releases
+-- a bit is cleared, and no other changes
+pub mod Served
+-- a host raises a line
+pub mod Raised
+-- which line enters, and what it leaves
+pub mod Entered
+-- a run in which no line may enter
+pub mod Quiet
 -- what a run accepts, part by part
 pub mod Accepted
 -- a step is one action on the linked stacks, and an allowed one
@@ -48,6 +60,8 @@ pub mod Clash
 pub mod Unbarred
 -- the numbers with which an instruction is refused
 pub mod Refusals
+-- a run that starts with counts
+pub mod Counted
 -- a run goes on after a turn
 pub mod Onward
 -- the tasks after a turn, and what one turn leaves

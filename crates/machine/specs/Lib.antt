@@ -2,6 +2,8 @@
 pub mod Limits
 -- who may touch which byte
 pub mod Reach
+-- interrupt lines: when one enters, and what then
+pub mod Lines
 -- when a state is well formed, and the fresh machine
 pub mod State
 -- the codes: a table of what depends on a code alone
@@ -20,6 +22,8 @@ pub mod Checks
 pub mod Step
 -- a run under a budget
 pub mod Run
+-- what a run leaves, counted on
+pub mod Added
 -- four tasks, in turns
 pub mod Tasks
 -- the memory sum beside a run
@@ -28,6 +32,8 @@ pub mod Sum
 pub mod Sheet
 -- where a THROW of non-zero goes on, what S, R and P then are, and what it notes
 pub mod AfterThrow
+-- what a line that enters leaves
+pub mod AfterEntry
 -- what a machine and a memory that exist can hold
 pub mod Fits
 pub mod Laws

@@ -1,4 +1,5 @@
 -- What each instruction does, a row for each: document 01, "Codes" and "Linked stacks". Stack comments read top last.
+use mathlib.Core.Bool.{Bool, true, false}
 use mathlib.Core.List.{List, [], _∷_, _++_}
 use Prim.Native.Nat.{ℕ, _-_}
 use lib.Dec.{eqb}
@@ -13,7 +14,7 @@ use Rattle.word.specs.Dispatch.{oneCellOf, twoCellsOf}
 use Rattle.word.specs.declared.Changed.{Changed}
 use Rattle.word.specs.declared.Outcome.{Outcome}
 use Rattle.word.specs.declared.Outcome.the-variants.{Single, Double, DivisorZero}
-use Rattle.machine.specs.Codes.{Shuffle, NOP, DROP, DUP, SWAP, OVER, NIP, ROT, PSP-AT, ZERO, DUP-NONZERO, PAUSE, Jump, JMP, BEQ, BRA, Link, >R, R-AT, R>, CATCH, RESETSP, THROW, JSL, JSR, EXIT, Op, SHUFFLE, JUMP, LINK, ONE, TWO, FETCH, STORE, LITERAL, entryAt}
+use Rattle.machine.specs.Codes.{Shuffle, NOP, DROP, DUP, SWAP, OVER, NIP, ROT, PSP-AT, ZERO, DUP-NONZERO, PAUSE, Jump, JMP, BEQ, BRA, Link, >R, R-AT, R>, CATCH, RESETSP, THROW, JSL, JSR, EXIT, RTI, Op, SHUFFLE, JUMP, LINK, ONE, TWO, FETCH, STORE, LITERAL, entryAt}
 use Rattle.machine.specs.Memory.{size, placeOf}
 use Rattle.machine.specs.View.{bytesOfCells, overwritten}
 use Rattle.machine.specs.Fetch.{Instruction}
@@ -25,8 +26,8 @@ use Rattle.machine.specs.declared.Place.the-variants.{Memory, View, Nowh
 -- what an instruction finds missing, besides parameter cells and what its action needs (Checks.antt)
 pub data Lack : Type 0 where
   nothing : Lack
-  -- a return cell to read; a place in memory or in view at its address; a divisor that is not zero
-  aReturnCell aPlace aDivisor : Lack
+  -- a return cell to read; a place in memory or in view at its address; a divisor that is not zero; a routine in progress to return from
+  aReturnCell aPlace aDivisor aRoutine : Lack
   deriving Discrete as Lack-discrete
 
 pub record Row : Type 0 where
@@ -40,13 +41,15 @@ pub record Row : Type 0 where
   pub flag : ℕ
   pub memory : List ℕ
   pub lack : Lack
+  -- it releases the block
+  pub releases : Bool
   -- the bytes of memory that it reads or writes: so many from an address
   pub from : ℕ
   pub touches : ℕ
 
 abbrev pub make : ℕ → List ℕ → Act → ℕ → ℕ → List ℕ → Lack → Row
 make keeps puts link goes flag memory lack =
-    record { keeps = keeps; puts = puts; link = link; goes = goes; flag = flag; memory = memory; lack = lack; from = 0; touches = 0 }
+    record { keeps = keeps; puts = puts; link = link; goes = goes; flag = flag; memory = memory; lack = lack; releases = false; from = 0; touches = 0 }
 
 -- the same row, by an access to so many bytes from an address
 abbrev pub touching : ℕ → ℕ → Row → Row
@@ -59,9 +62,30 @@ touching from touches row =
       flag = row .flag;
       memory = row .memory;
       lack = row .lack;
+      releases = row .releases;
       from = from;
       touches = touches;
     }
+
+-- the same row, which releases the block
+abbrev pub releasing : Row → Row
+releasing row =
+    record {
+      keeps = row .keeps;
+      puts = row .puts;
+      link = row .link;
+      goes = row .goes;
+      flag = row .flag;
+      memory = row .memory;
+      lack = row .lack;
+      releases = true;
+      from = row .from;
+      touches = row .touches;
+    }
+
+-- no routine is in progress, or there is no level to leave
+abbrev pub noReturn : Machine → Bool
+noReturn m = pick (eqb (m .lines .block) 0) true (eqb (m .links .s) 0)
 
 -- the top cell, the one under it and the third
 abbrev pub top : Machine → ℕ
@@ -162,6 +186,13 @@ module _ (i : Instruction) (mem : List ℕ) (m : Machine) where
       make (copyOfP (m .links .levels) (m .links .e)) (top m ∷ []) throw
       (levelAt (m .links) (m .links .e) .address) (m .flag) mem nothing
 
+  abbrev pub exitRow : Row
+  exitRow = jump exit (frameAt (m .links) (m .links .s) .address)
+
+  -- request P4: RTI does all that EXIT does, and releases the block
+  abbrev pub rtiRow : Row
+  rtiRow = pick (noReturn m) (lacking aRoutine) (releasing exitRow)
+
   abbrev pub linkRow : Link → Row
   linkRow >R = jump (push (top m)) (i .next)
   linkRow R-AT = returnRow still
@@ -171,7 +202,8 @@ module _ (i : Instruction) (mem : List ℕ) (m : Machine) where
   linkRow THROW = pick (eqb (top m) 0) (cellsRow []) throwRow
   linkRow JSL = jump (call (i .next)) (i .operand)
   linkRow JSR = jump (call (i .next)) (top m)
-  linkRow EXIT = jump exit (frameAt (m .links) (m .links .s) .address)
+  linkRow EXIT = exitRow
+  linkRow RTI = rtiRow
 
   unfoldable pub rowOf : Op → Row
   rowOf (SHUFFLE o) = cellsRow (shuffled o)

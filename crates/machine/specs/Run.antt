@@ -11,6 +11,7 @@ use Rattle.machine.specs.Limits.{memoryLength, mostBudget}
 use Rattle.machine.specs.Reach.{alone}
 use Rattle.machine.specs.State.{wellFormed}
 use Rattle.machine.specs.Codes.{codePAUSE}
+use Rattle.machine.specs.Lines.{letIn}
 use Rattle.machine.specs.Step.{refused, done, stepOf}
 use Rattle.machine.specs.declared.Machine.{Machine}
 use Rattle.machine.specs.declared.Ran.{Ran}
@@ -37,28 +38,41 @@ pub record CyclesBounded (a : After) : Type 0 where
 abbrev pub passes : Bool → List ℕ → Machine → Bool
 passes inTurns mem m = both inTurns (eqb (byteAt mem (m .counter)) codePAUSE)
 
--- the run from here: under whose reach, whether turns are taken, instructions left in the budget, then the steps and cycles
--- counted so far. Before each instruction a spent budget ends the run with 1; a completed instruction is one step; one that passes
--- the turn ends the run as a spent budget does.
-unfoldable pub runFrom : Reach → Bool → ℕ → List ℕ → Machine → ℕ → ℕ → After
-runFrom reach inTurns zero mem m steps cycles = ended 1 mem m steps cycles
-runFrom reach inTurns (suc left) mem m steps cycles =
-    elim (stepOf reach mem m) [
-      | refused number ↦ ended number mem m steps cycles
+-- how a machine is run: whether turns are taken, and whether interrupt lines may enter it
+pub record Manner : Type 0 where
+  pub inTurns : Bool
+  pub lined : Bool
+
+abbrev pub mannerOf : Bool → Bool → Manner
+mannerOf inTurns lined = record { inTurns = inTurns; lined = lined }
+
+-- a machine by itself
+abbrev pub byItself : Manner
+byItself = mannerOf false true
+
+-- the run from here: under whose reach, in which manner, instructions left in the budget, then the steps and cycles counted so far.
+-- Before each instruction a spent budget ends the run with 1; then a line may enter, which is no step; a completed instruction is one
+-- step; one that passes the turn ends the run as a spent budget does.
+unfoldable pub runFrom : Reach → Manner → ℕ → List ℕ → Machine → ℕ → ℕ → After
+runFrom reach manner zero mem m steps cycles = ended 1 mem m steps cycles
+runFrom reach manner (suc left) mem m steps cycles =
+    let here = letIn (manner .lined) m in
+    elim (stepOf reach mem here) [
+      | refused number ↦ ended number mem here steps cycles
       | done mem′ m′ cost ↦
-          pick (passes inTurns mem m) (ended 1 mem′ m′ (suc steps) (cycles + cost))
-          (runFrom reach inTurns left mem′ m′ (suc steps) (cycles + cost))
+          pick (passes (manner .inTurns) mem here) (ended 1 mem′ m′ (suc steps) (cycles + cost))
+          (runFrom reach manner left mem′ m′ (suc steps) (cycles + cost))
     ]
 
 -- memory length, budget and state as document 01 asks
 unfoldable pub acceptable : List ℕ → Machine → ℕ → Bool
 acceptable mem m budget = both (eqb (length mem) memoryLength) (both (leb budget mostBudget) (wellFormed m))
 
--- a run of one machine, which has all of memory and takes no turns; what is not as asked is refused before the first instruction,
+-- a run of one machine, which has all of memory and takes no turns, and which lines may enter; what is not as asked is refused before the first instruction,
 -- and nothing is altered
 unfoldable pub runOf : List ℕ → Machine → ℕ → After
 runOf mem m budget =
     elim (acceptable mem m budget) [
-      | true ↦ runFrom alone false budget mem m 0 0
+      | true ↦ runFrom alone byItself budget mem m 0 0
       | false ↦ ended notAsAsked mem m 0 0
     ]

@@ -10,6 +10,7 @@ use Rattle.machine.specs.Codes.{entryAt, cyclesOf}
 use Rattle.machine.specs.Fetch.{Instruction, instructionAt}
 use Rattle.machine.specs.Rows.{Row, rowOf, top}
 use Rattle.machine.specs.Checks.{Test, tests}
+use Rattle.machine.specs.Lines.{released}
 use Rattle.machine.specs.declared.LastThrow.{LastThrow}
 use Rattle.machine.specs.declared.Machine.{Machine}
 use Rattle.machine.specs.declared.Reach.{Reach}
@@ -32,7 +33,8 @@ noted throw m = record { address = m .counter; code = top m }
 noted (keep locals cells) m = m .thrown
 noted reset m = m .thrown
 
--- the machine after a row: its cells put, its links acted on, its counter and flag as the row says, and a THROW noted
+-- the machine after a row: its cells put, its links acted on, its counter and flag as the row says, a THROW noted, and the block
+-- released where the row says so
 abbrev pub put : Row → Machine → Machine
 put row m =
     record {
@@ -42,6 +44,7 @@ put row m =
       counter = row .goes;
       flag = row .flag;
       thrown = noted (row .link) m;
+      lines = pick (row .releases) (released (m .lines)) (m .lines);
     }
 
 -- the cycle table's one exception

@@ -1,4 +1,4 @@
--- Four tasks on one memory, in turns: request P1.
+-- Four tasks on one memory, in turns: request P1. Interrupt lines enter task 0 only: request P4.
 use mathlib.Core.Path.{_≡_}
 use mathlib.Core.Bool.{Bool, true, false}
 use mathlib.Core.List.{List, [], _∷_}
@@ -11,7 +11,8 @@ use Rattle.plain.specs.Choice.{pick, both}
 use Rattle.machine.specs.Limits.{memoryLength, mostBudget, mostQuantum, tasksCount}
 use Rattle.machine.specs.Reach.{task}
 use Rattle.machine.specs.State.{wellFormed, Whole, noThrow, freshMachine}
-use Rattle.machine.specs.Run.{After, runFrom}
+use Rattle.machine.specs.Lines.{noLines}
+use Rattle.machine.specs.Run.{After, Manner, mannerOf, runFrom}
 use Rattle.machine.specs.declared.Machine.{Machine}
 use Rattle.machine.specs.declared.Tasks.{Tasks}
 use Rattle.machine.specs.declared.RanTasks.{RanTasks}
@@ -40,7 +41,7 @@ paired (m ∷ ms) (k ∷ ks) = taskOf m k ∷ paired ms ks
 -- past the last task there is none: nothing in it, and not ready
 abbrev pub noMachine : Machine
 noMachine =
-    record { cells = []; p = 0; links = record { returns = []; r = 0; frames = []; s = 0; levels = []; e = 0 }; counter = 0; flag = 0; thrown = noThrow }
+    record { cells = []; p = 0; links = record { returns = []; r = 0; frames = []; s = 0; levels = []; e = 0 }; counter = 0; flag = 0; thrown = noThrow; lines = noLines }
 
 abbrev pub noTask : Task
 noTask = taskOf noMachine 0
@@ -88,9 +89,13 @@ pub record Between : Type 0 where
 abbrev pub turnLength : ℕ → ℕ → ℕ
 turnLength quantum left = pick (ltb quantum left) quantum left
 
+-- a task is run in turns, and lines may enter task 0
+abbrev pub asTask : ℕ → Manner
+asTask t = mannerOf true (eqb t 0)
+
 -- task t's turn: its instructions under its reach, ended also after a PAUSE
 abbrev pub turnOf : ℕ → Between → ℕ → After
-turnOf quantum b t = runFrom (task t) true (turnLength quantum (b .left)) (b .memory) (taskAt (b .tasks) t .machine) 0 0
+turnOf quantum b t = runFrom (task t) (asTask t) (turnLength quantum (b .left)) (b .memory) (taskAt (b .tasks) t .machine) 0 0
 
 -- what a turn leaves of its task
 abbrev pub leftBy : After → Task
@@ -130,9 +135,9 @@ pub data TurnsFrom (quantum : ℕ) : Between → TasksAfter → Type 0 where
 abbrev pub startOf : List ℕ → List Task → ℕ → Between
 startOf mem tasks budget = record { memory = mem; tasks = tasks; from = 0; left = budget; steps = 0; cycles = 0 }
 
--- ready, or an answer with which a task can leave: 0, 3 to 13, 17
+-- ready, or an answer with which a task can leave: 0, 3 to 13, 16, 17
 abbrev pub canKeep : ℕ → Bool
-canKeep n = pick (leb n 1) true (pick (eqb n 17) true (both (leb 3 n) (leb n 13)))
+canKeep n = pick (leb n 1) true (pick (leb 16 n) (leb n 17) (both (leb 3 n) (leb n 13)))
 
 abbrev pub taskGood : Task → Bool
 taskGood task = both (wellFormed (task .machine)) (canKeep (task .kept))

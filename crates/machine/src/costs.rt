@@ -60,6 +60,6 @@ pub const CYCLES: [u32; 62] = [
     2, // 39 JSR
     1, // 3A unknown
     1, // 3B unknown
-    1, // 3C unknown
+    2, // 3C RTI
     2, // 3D EXIT
 ];

@@ -7,8 +7,8 @@ mod turns;
 pub use costs::CYCLES;
 use links::Links;
 
-// The state: the parameter stack with its depth P, the three linked stacks, the program counter, the extend flag, and where it was last
-// thrown.
+// The state: the parameter stack with its depth P, the three linked stacks, the program counter, the extend flag, where it was last
+// thrown, and the interrupt lines.
 pub struct Machine {
     pub cells: [u32; Machine::CELLS],
     pub p: usize,
@@ -16,12 +16,20 @@ pub struct Machine {
     pub counter: u32,
     pub flag: u32,
     pub thrown: LastThrow,
+    pub lines: Lines,
 }
 
 // The last THROW of non-zero that was carried out: its own address, and the number thrown.
 pub struct LastThrow {
     pub address: u32,
     pub code: u32,
+}
+
+// The interrupt lines: those that are let in and those that wait, a bit a line, and whether a routine is in progress, 0 or 1.
+pub struct Lines {
+    pub mask: u32,
+    pub waiting: u32,
+    pub block: u32,
 }
 
 // Completed instructions. Steps and cycles are two counters: neither can be added to the other or passed for it.

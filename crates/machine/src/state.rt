@@ -1,5 +1,6 @@
 // The fresh machine, the depths of its stacks, and the limits of a run.
 use crate::LastThrow;
+use crate::Lines;
 use crate::Machine;
 use links::Links;
 ghost use mathlib.Core.Path.{_≡_};
@@ -33,6 +34,11 @@ impl Machine {
             address: 0,
             code: 0,
         };
+        let lines = Lines {
+            mask: 0,
+            waiting: 0,
+            block: 0,
+        };
         Machine {
             cells,
             p: 0,
@@ -40,6 +46,7 @@ impl Machine {
             counter: 0,
             flag: 0,
             thrown,
+            lines,
         }
     }
 }

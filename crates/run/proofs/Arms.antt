@@ -19,13 +19,13 @@ use Rattle.links.specs.Linked.{noFrame, noLevel, copyOfR, copyOfS, copyOfP}
 use Rattle.links.specs.declared.Frame.{Frame}
 use Rattle.links.specs.declared.Level.{Level}
 use Rattle.machine.specs.Codes.{entryAt, table, cyclesOf, codePAUSE, LINK, THROW, FETCH, STORE}
+use Rattle.machine.specs.Lines.{released}
 use Rattle.machine.specs.Reach.{barOf, isForeign}
 use Rattle.machine.specs.Memory.{size, placeOf}
 use Rattle.machine.specs.View.{bytesOfCells, overwritten}
-use Rattle.machine.specs.Rows.{nothing, aReturnCell, aPlace, aDivisor, Lack-discrete, rowOf}
+use Rattle.machine.specs.Rows.{nothing, aReturnCell, aPlace, aDivisor, aRoutine, Lack-discrete, rowOf}
 use Rattle.machine.specs.Step.{Stepped, refused, done, costOf, carried}
 use Rattle.machine.specs.Laws.Prices.{by-code}
-use Rattle.machine.specs.declared.LastThrow.{LastThrow}
 use Rattle.machine.specs.declared.Machine.{Machine}
 use Rattle.machine.specs.declared.Reach.{Reach}
 use Rattle.machine.specs.declared.Width.{Width}
@@ -38,8 +38,9 @@ use Rattle.run.specs.Machines.{inReach, linksOf}
 use Rattle.run.specs.Promises.{CarriesOut, Spells, Unaltered}
 use Rattle.run.specs.Registers.{machineIn, movedTo, haltedBy}
 use Rattle.run.specs.Losses.{OneOf, IsStore}
-use Rattle.run.specs.Levels.{framesIn, levelsIn, Note, noteIn, seen, Hold, HoldSeen}
-use Rattle.run.specs.Verdicts.{pushable, readable, callable, catchable, throwable, exitable, sAfterPop, eAfterDropOf, eAfterPop}
+use Rattle.run.specs.Levels.{framesIn, levelsIn, noteIn, seen, Hold, HoldSeen}
+use Rattle.run.specs.Notes.{Aside, Note, asideOf}
+use Rattle.run.specs.Verdicts.{pushable, readable, callable, catchable, throwable, exitable, returnable, sAfterPop, eAfterDropOf, eAfterPop}
 use Rattle.run.specs.declared.Registers.{Registers}
 use Rattle.run.specs.declared.Stack.{Stack}
 use Rattle.run.specs.declared.Throw.{Throw}
@@ -85,6 +86,10 @@ placed : (b : Bool) → decided (Lack-discrete (pick b aReturnCell nothing) aPla
 placed true = refl
 placed false = refl
 
+routined : (b : Bool) → decided (Lack-discrete (pick b aReturnCell nothing) aRoutine) ≡ false
+routined true = refl
+routined false = refl
+
 divided : (b : Bool) → decided (Lack-discrete (pick b aReturnCell nothing) aDivisor) ≡ false
 divided true = refl
 divided false = refl
@@ -92,20 +97,20 @@ divided false = refl
 -- levels and a note that stand in rows
 pub held-there : {mem cells returns : List ℕ} {rows : List (List ℕ)} {copies : List ℕ} {frames : List Frame} {levels : List Level} {note : Note} {p r s e counter flag cost : ℕ} →
     Hold rows copies frames levels note →
-    done mem (record { cells = cells; p = p; links = linksOf returns r frames s levels e; counter = counter; flag = flag; thrown = note .thrown }) cost ≡
-    done mem (record { cells = cells; p = p; links = linksOf returns r (framesIn rows copies) s (levelsIn rows copies) e; counter = counter; flag = flag; thrown = noteIn rows .thrown }) cost
+    done mem (record { cells = cells; p = p; links = linksOf returns r frames s levels e; counter = counter; flag = flag; thrown = note .aside .thrown; lines = note .aside .lines }) cost ≡
+    done mem (record { cells = cells; p = p; links = linksOf returns r (framesIn rows copies) s (levelsIn rows copies) e; counter = counter; flag = flag; thrown = noteIn rows .aside .thrown; lines = noteIn rows .aside .lines }) cost
 held-there {mem} {cells} {returns} {rows} {copies} {frames} {levels} {note} {p} {r} {s} {e} {counter} {flag} {cost} held =
     ap (λ (f : List Frame). left f levels note) (sym (held .frames-are)) ∙ ap (λ (l : List Level). left (framesIn rows copies) l note) (sym (held .levels-are)) ∙
     ap (left (framesIn rows copies) (levelsIn rows copies)) (sym (held .note-is))
   where
     left : List Frame → List Level → Note → Stepped
-    left f l n = done mem (record { cells = cells; p = p; links = linksOf returns r f s l e; counter = counter; flag = flag; thrown = n .thrown }) cost
+    left f l n = done mem (record { cells = cells; p = p; links = linksOf returns r f s l e; counter = counter; flag = flag; thrown = n .aside .thrown; lines = n .aside .lines }) cost
 
-module _ {reach : Reach} {inTurns : Bool} {mem₀ : List ℕ} {m₀ : Machine} {budget : ℕ} {mem cells returns : List ℕ} {frames : List Frame} {levels : List Level} {thrown : LastThrow} {g : Registers}
-    {code operand next : ℕ} (found : Found reach inTurns mem₀ m₀ budget mem cells returns frames levels thrown g code operand next)
+module _ {reach : Reach} {inTurns : Bool} {mem₀ : List ℕ} {m₀ : Machine} {budget heeds₀ : ℕ} {mem cells returns : List ℕ} {frames : List Frame} {levels : List Level} {aside : Aside} {g : Registers}
+    {code operand next : ℕ} (found : Found reach inTurns mem₀ m₀ budget heeds₀ mem cells returns frames levels aside g code operand next)
   where
     abbrev here : Machine
-    here = machineIn cells returns frames levels thrown g
+    here = machineIn cells returns frames levels aside g
 
     abbrev Does : {A : Type 0} → Answer A → (A → Stepped) → Type 0
     Does said after = Acts (inReach reach code operand next) mem here said after
@@ -119,7 +124,7 @@ module _ {reach : Reach} {inTurns : Bool} {mem₀ : List ℕ} {m₀ : Machine} {
     -- >R
     pub push-acts : code ≡ 0x07 →
         Does (pushable (g .p) (g .r))
-        (λ u. done mem (machineIn cells (set returns (g .r) (getD cells (g .p - 1) 0)) frames levels thrown (movedTo g (g .p - 1) (g .r + 1) (g .s) (g .e) next (g .flag))) (cyclesOf code))
+        (λ u. done mem (machineIn cells (set returns (g .r) (getD cells (g .p - 1) 0)) frames levels aside (movedTo g (g .p - 1) (g .r + 1) (g .s) (g .e) next (g .flag))) (cyclesOf code))
     unfolding carried rowOf entryAt table pushable barOf
     push-acts key =
         let depth : g .p - 1 + 0 ≡ g .p - 1 = omega arith in
@@ -133,17 +138,17 @@ module _ {reach : Reach} {inTurns : Bool} {mem₀ : List ℕ} {m₀ : Machine} {
 
     pub copy-acts : code ≡ 0x08 →
         Does (readable (g .p) (g .r))
-        (λ u. done mem (machineIn (set cells (g .p) (getD returns (g .r - 1) 0)) returns frames levels thrown (movedTo g (g .p + 1) (g .r) (g .s) (g .e) next (g .flag))) (cyclesOf code))
+        (λ u. done mem (machineIn (set cells (g .p) (getD returns (g .r - 1) 0)) returns frames levels aside (movedTo g (g .p + 1) (g .r) (g .s) (g .e) next (g .flag))) (cyclesOf code))
     unfolding carried rowOf entryAt table readable barOf
     copy-acts key =
         let none : 0 ≤ g .p = omega arith in
         let same : g .p - 0 ≡ g .p = omega arith in
-        record { on = λ h. omega (arith, key); is = rw (key, le-ltb (g .p) 0 none, returnless (eqb (g .r) 0), placed (eqb (g .r) 0), divided (eqb (g .r) 0), room-test, same) (two-checks (eqb (g .r) 0) (leb cellsDepth (g .p)) 6 8 _) }
+        record { on = λ h. omega (arith, key); is = rw (key, le-ltb (g .p) 0 none, returnless (eqb (g .r) 0), placed (eqb (g .r) 0), divided (eqb (g .r) 0), routined (eqb (g .r) 0), room-test, same) (two-checks (eqb (g .r) 0) (leb cellsDepth (g .p)) 6 8 _) }
 
     pub pop-acts : code ≡ 0x09 → {lower left : ℕ} → lower ≡ sAfterPop (g .r - 1) (g .s) (copyOfR frames (g .s)) →
         left ≡ eAfterPop lower (g .s) (g .e) (copyOfS levels (g .e)) →
         Does (readable (g .p) (g .r))
-        (λ u. done mem (machineIn (set cells (g .p) (getD returns (g .r - 1) 0)) returns frames levels thrown (movedTo g (g .p + 1) (g .r - 1) lower left next (g .flag))) (cyclesOf code))
+        (λ u. done mem (machineIn (set cells (g .p) (getD returns (g .r - 1) 0)) returns frames levels aside (movedTo g (g .p + 1) (g .r - 1) lower left next (g .flag))) (cyclesOf code))
     unfolding carried rowOf entryAt table readable barOf
     pop-acts key es ee =
         let none : 0 ≤ g .p = omega arith in
@@ -151,7 +156,7 @@ module _ {reach : Reach} {inTurns : Bool} {mem₀ : List ℕ} {m₀ : Machine} {
         record {
           on = λ h. omega (arith, key);
           is =
-              rw (key, le-ltb (g .p) 0 none, returnless (eqb (g .r) 0), placed (eqb (g .r) 0), divided (eqb (g .r) 0), room-test, same, ee, es, pop-e (g .r) (g .s) frames (g .e) levels, pop-s (g .r) (g .s) frames)
+              rw (key, le-ltb (g .p) 0 none, returnless (eqb (g .r) 0), placed (eqb (g .r) 0), divided (eqb (g .r) 0), routined (eqb (g .r) 0), room-test, same, ee, es, pop-e (g .r) (g .s) frames (g .e) levels, pop-s (g .r) (g .s) frames)
               (two-checks (eqb (g .r) 0) (leb cellsDepth (g .p)) 6 8 _);
         }
 
@@ -162,7 +167,7 @@ module _ {reach : Reach} {inTurns : Bool} {mem₀ : List ℕ} {m₀ : Machine} {
         done mem
         (machineIn cells (set returns (g .r) next) (set frames (g .s + 1) (calledFrame (g .r) next))
         (set levels (g .e + 1) (record { cells = getD levels (g .e) noLevel .cells; s = g .s; p = g .p - 1; address = address }))
-        thrown (movedTo g (g .p - 1) (g .r + 1) (g .s + 1) (g .e + 1) (getD cells (g .p - 1) 0) (g .flag)))
+        aside (movedTo g (g .p - 1) (g .r + 1) (g .s + 1) (g .e + 1) (getD cells (g .p - 1) 0) (g .flag)))
         (cyclesOf code))
     unfolding carried rowOf entryAt table catchable barOf
     catch-acts key ea =
@@ -176,7 +181,7 @@ module _ {reach : Reach} {inTurns : Bool} {mem₀ : List ℕ} {m₀ : Machine} {
 
     -- RESETSP
     pub reset-acts : code ≡ 0x0C →
-        Does {A = Unit {0}} (gives tt) (λ u. done mem (machineIn cells returns frames levels thrown (movedTo g 0 0 0 0 next (g .flag))) (cyclesOf code))
+        Does {A = Unit {0}} (gives tt) (λ u. done mem (machineIn cells returns frames levels aside (movedTo g 0 0 0 0 next (g .flag))) (cyclesOf code))
     unfolding carried rowOf entryAt table barOf
     reset-acts key =
         let none : 0 ≤ g .p = omega arith in
@@ -184,11 +189,11 @@ module _ {reach : Reach} {inTurns : Bool} {mem₀ : List ℕ} {m₀ : Machine} {
 
     -- THROW of 0, and of a code to the top exception level
     abbrev pub thrownBy : Throw → Stepped
-    thrownBy Zero = done mem (machineIn cells returns frames levels thrown (movedTo g (g .p - 1) (g .r) (g .s) (g .e) next (g .flag))) 1
+    thrownBy Zero = done mem (machineIn cells returns frames levels aside (movedTo g (g .p - 1) (g .r) (g .s) (g .e) next (g .flag))) 1
     thrownBy (Code n) =
         let level = getD levels (g .e) noLevel in
         done mem
-        (machineIn (set cells (level .p) n) returns frames levels (record { address = g .counter; code = n })
+        (machineIn (set cells (level .p) n) returns frames levels (asideOf (record { address = g .counter; code = n }) (aside .lines))
         (movedTo g (level .p + 1) (getD frames (level .s + 1) noFrame .r) (level .s) (g .e - 1) (level .address) (g .flag)))
         (cyclesOf code)
 
@@ -214,13 +219,13 @@ module _ {reach : Reach} {inTurns : Bool} {mem₀ : List ℕ} {m₀ : Machine} {
 
     -- what it read of the level is where it goes
     pub thrown-there : (n : ℕ) {p s r address : ℕ} → p ≡ copyOfP levels (g .e) → s ≡ copyOfS levels (g .e) → r ≡ copyOfR frames (s + 1) → address ≡ getD levels (g .e) noLevel .address →
-        thrownBy (Code n) ≡ done mem (machineIn (set cells p n) returns frames levels (record { address = g .counter; code = n }) (movedTo g (p + 1) r s (g .e - 1) address (g .flag))) (cyclesOf code)
+        thrownBy (Code n) ≡ done mem (machineIn (set cells p n) returns frames levels (asideOf (record { address = g .counter; code = n }) (aside .lines)) (movedTo g (p + 1) r s (g .e - 1) address (g .flag))) (cyclesOf code)
     thrown-there n ep es er ea = rw (ea, er, es, ep)
 
     -- EXIT
     pub exit-acts : code ≡ 0x3D → {left r address : ℕ} → left ≡ eAfterDropOf (g .s - 1) (g .e) (copyOfS levels (g .e)) → r ≡ copyOfR frames (g .s) →
         address ≡ getD frames (g .s) noFrame .address →
-        Does (exitable (g .s)) (λ u. done mem (machineIn cells returns frames levels thrown (movedTo g (g .p) r (g .s - 1) left address (g .flag))) (cyclesOf code))
+        Does (exitable (g .s)) (λ u. done mem (machineIn cells returns frames levels aside (movedTo g (g .p) r (g .s - 1) left address (g .flag))) (cyclesOf code))
     unfolding carried rowOf entryAt table exitable barOf
     exit-acts key ee er ea =
         let none : 0 ≤ g .p = omega arith in
@@ -228,10 +233,35 @@ module _ {reach : Reach} {inTurns : Bool} {mem₀ : List ℕ} {m₀ : Machine} {
         let same : g .p - 0 ≤ g .p = omega arith in
         record { on = λ h. omega (arith, key); is = rw (key, le-ltb (g .p) 0 none, room (g .p - 0) same, depth, ee, er, ea, drop-same (g .s - 1) (g .e) levels) (one-check (eqb (g .s) 0) 0 _) }
 
+    -- RTI
+    pub rti-acts : code ≡ 0x3C → {left r address : ℕ} → left ≡ eAfterDropOf (g .s - 1) (g .e) (copyOfS levels (g .e)) → r ≡ copyOfR frames (g .s) →
+        address ≡ getD frames (g .s) noFrame .address →
+        Does (returnable (aside .lines .block) (g .s))
+        (λ u. done mem (machineIn cells returns frames levels (asideOf (aside .thrown) (released (aside .lines))) (movedTo g (g .p) r (g .s - 1) left address (g .flag))) (cyclesOf code))
+    unfolding carried rowOf entryAt table returnable barOf
+    rti-acts key {left} {r} {address} ee er ea = record { on = λ h. omega (arith, key); is = go (eqb (aside .lines .block) 0) (eqb (g .s) 0) refl refl }
+      where
+        none : 0 ≤ g .p
+        none = omega arith
+
+        depth : g .p - 0 + 0 ≡ g .p
+        depth = omega arith
+
+        same : g .p - 0 ≤ g .p
+        same = omega arith
+
+        go : (a b : Bool) → eqb (aside .lines .block) 0 ≡ a → eqb (g .s) 0 ≡ b →
+            carried (inReach reach code operand next) mem here ≡
+            stepBy (returnable (aside .lines .block) (g .s))
+            (λ u. done mem (machineIn cells returns frames levels (asideOf (aside .thrown) (released (aside .lines))) (movedTo g (g .p) r (g .s - 1) left address (g .flag))) (cyclesOf code))
+        go true b free out = rw (key, free)
+        go false true free out = rw (key, free, out)
+        go false false free out = rw (key, free, out, le-ltb (g .p) 0 none, room (g .p - 0) same, depth, ee, er, ea, drop-same (g .s - 1) (g .e) levels)
+
     -- JSL and JSR
     abbrev pub calledTo : ℕ → ℕ → Stepped
     calledTo p to =
-        done mem (machineIn cells (set returns (g .r) next) (set frames (g .s + 1) (calledFrame (g .r) next)) levels thrown (movedTo g p (g .r + 1) (g .s + 1) (g .e) to (g .flag))) (cyclesOf code)
+        done mem (machineIn cells (set returns (g .r) next) (set frames (g .s + 1) (calledFrame (g .r) next)) levels aside (movedTo g p (g .r + 1) (g .s + 1) (g .e) to (g .flag))) (cyclesOf code)
 
     pub call-acts : code ≡ 0x38 → Does (callable 0 (g .p) (g .r) (g .s)) (λ u. calledTo (g .p) operand)
     unfolding carried rowOf entryAt table callable barOf
@@ -263,7 +293,7 @@ module _ {reach : Reach} {inTurns : Bool} {mem₀ : List ℕ} {m₀ : Machine} {
     -- FETCH: the top cell becomes what is found
     abbrev pub fetchedAs : ℕ → Stepped
     fetchedAs value =
-        done mem (machineIn (set cells (g .p - 1) value) returns frames levels thrown (movedTo g (g .p) (g .r) (g .s) (g .e) next (g .flag))) (cyclesOf code)
+        done mem (machineIn (set cells (g .p - 1) value) returns frames levels aside (movedTo g (g .p) (g .r) (g .s) (g .e) next (g .flag))) (cyclesOf code)
 
     abbrev pub fetchedBy : Width → Place → Stepped
     fetchedBy w (Memory a) = fetchedAs (numberAt (size w) mem a)
@@ -310,18 +340,18 @@ module _ {reach : Reach} {inTurns : Bool} {mem₀ : List ℕ} {m₀ : Machine} {
     lowered = movedTo g (g .p - 2) (g .r) (g .s) (g .e) next (g .flag)
 
     abbrev pub storedBy : Width → Place → Stepped
-    storedBy w (Memory a) = done (sets mem a (bytesOf (size w) (getD cells (g .p - 2) 0))) (machineIn cells returns frames levels thrown lowered) (cyclesOf code)
+    storedBy w (Memory a) = done (sets mem a (bytesOf (size w) (getD cells (g .p - 2) 0))) (machineIn cells returns frames levels aside lowered) (cyclesOf code)
     storedBy w (View a) =
         let after = overwritten (seen frames levels (g .s) (g .e)) a (bytesOf (size w) (getD cells (g .p - 2) 0)) in
         done mem
         (machineIn cells returns (set frames (g .s) (withLocals (take localsCount after) (getD frames (g .s) noFrame)))
-        (set levels (g .e) (withCells (drop localsCount after) (getD levels (g .e) noLevel))) thrown lowered)
+        (set levels (g .e) (withCells (drop localsCount after) (getD levels (g .e) noLevel))) aside lowered)
         (cyclesOf code)
     storedBy w Nowhere = refused 12
 
     pub written-there : (w : Width) (a : ℕ) {mem′ : List ℕ} → mem′ ≡ sets mem a (bytesOf (size w) (getD cells (g .p - 2) 0)) →
-        storedBy w (Memory a) ≡ done mem′ (machineIn cells returns frames levels thrown lowered) (cyclesOf code)
-    written-there w a e = ap (λ (l : List ℕ). done l (machineIn cells returns frames levels thrown lowered) (cyclesOf code)) (sym e)
+        storedBy w (Memory a) ≡ done mem′ (machineIn cells returns frames levels aside lowered) (cyclesOf code)
+    written-there w a e = ap (λ (l : List ℕ). done l (machineIn cells returns frames levels aside lowered) (cyclesOf code)) (sym e)
 
     pub kept-whole : (w : Width) (a value : ℕ) → size w ≡ 4 → {rows : List (List ℕ)} {copies : List ℕ} {note : Note} →
         HoldSeen rows copies frames levels note (g .s) (g .e) (overwritten (seen frames levels (g .s) (g .e)) a (bytesOf 4 value)) →
@@ -359,7 +389,7 @@ module _ {reach : Reach} {inTurns : Bool} {mem₀ : List ℕ} {m₀ : Machine} {
     -- every other instruction, by what it promises
     abbrev wentTo : List ℕ → ℕ → Stack → Stepped
     wentTo cells′ price at =
-        done mem (machineIn cells′ returns frames levels thrown (movedTo g (at .p) (g .r) (g .s) (g .e) (at .counter) (at .flag))) price
+        done mem (machineIn cells′ returns frames levels aside (movedTo g (at .p) (g .r) (g .s) (g .e) (at .counter) (at .flag))) price
 
     pub cells-acts : (code ≡ 0x0D → ⊥) → (code ≡ codePAUSE → ⊥) → {cells′ : List ℕ} {said : Answer Stack} → CarriesOut code operand next cells (g .p) (g .flag) cells′ said →
         Does said (wentTo cells′ (cyclesOf code))
@@ -368,15 +398,15 @@ module _ {reach : Reach} {inTurns : Bool} {mem₀ : List ℕ} {m₀ : Machine} {
 
     -- a refusal leaves the cells as they were
     pub cells-end : (code ≡ 0x0D → ⊥) → (code ≡ codePAUSE → ⊥) → {cells′ : List ℕ} {said : Answer Stack} → CarriesOut code operand next cells (g .p) (g .flag) cells′ said →
-        {number : ℕ} → said ≡ refuses number → {g′ : Registers} → g′ ≡ haltedBy said g → Round reach inTurns mem₀ m₀ budget mem cells′ returns frames levels thrown g′
+        {number : ℕ} → said ≡ refuses number → {g′ : Registers} → g′ ≡ haltedBy said g → Round reach inTurns mem₀ m₀ budget heeds₀ mem cells′ returns frames levels aside g′
     cells-end other on {cells′} {said} carries e {g′} eg =
         let same : cells′ ≡ cells = subst (Unaltered cells cells′) e (carries reach mem here .1) in
-        subst⁻¹ (λ (l : List ℕ). Round reach inTurns mem₀ m₀ budget mem l returns frames levels thrown g′) same (ends found (cells-acts other on carries) e refl eg)
+        subst⁻¹ (λ (l : List ℕ). Round reach inTurns mem₀ m₀ budget heeds₀ mem l returns frames levels aside g′) same (ends found (cells-acts other on carries) e refl eg)
 
     -- PAUSE
     pub pause-is : code ≡ codePAUSE →
         carried (inReach reach code operand next) mem here ≡
-        done mem (machineIn cells returns frames levels thrown (movedTo g (g .p) (g .r) (g .s) (g .e) next (g .flag))) (cyclesOf code)
+        done mem (machineIn cells returns frames levels aside (movedTo g (g .p) (g .r) (g .s) (g .e) next (g .flag))) (cyclesOf code)
     unfolding carried rowOf entryAt table barOf
     pause-is key =
         let none : 0 ≤ g .p = omega arith in

@@ -15,7 +15,7 @@ use Rattle.links.specs.Linked.{linked}
 use Rattle.machine.specs.Limits.{memoryLength, mostBudget, mostQuantum, mostSum, tasksCount}
 use Rattle.machine.specs.Reach.{alone}
 use Rattle.machine.specs.State.{wellFormed}
-use Rattle.machine.specs.Run.{After, afterOf, runFrom, runOf, acceptable}
+use Rattle.machine.specs.Run.{After, byItself, afterOf, runFrom, runOf, acceptable}
 use Rattle.machine.specs.Sum.{sumAfter, summedOf, runSummed, RunsTasksSummed, sum-declined, sum-taken}
 use Rattle.machine.specs.Tasks.{allGood, tasksAcceptable, TasksAfter, RunsTasks, declined, tasksIn, tasksAfterOf}
 use Rattle.machine.specs.declared.Machine.{Machine}
@@ -48,7 +48,7 @@ module _ (mem : List ℕ) (m : Machine) (budget : ℕ) where
   unfolding runOf
   run-declined bad ran e = rw (bad, runOf) (ap (afterOf mem) e)
 
-  pub taken : acceptable mem m budget ≡ true → (after : After) → after ≡ runFrom alone false budget mem m 0 0 → after ≡ runOf mem m budget
+  pub taken : acceptable mem m budget ≡ true → (after : After) → after ≡ runFrom alone byItself budget mem m 0 0 → after ≡ runOf mem m budget
   unfolding runOf
   taken good after e = rw (good, runOf) e
 

@@ -14,7 +14,9 @@ use Rattle.links.specs.declared.Frame.{Frame}
 use Rattle.links.specs.declared.Level.{Level}
 use Rattle.plain.specs.All.{All}
 use Rattle.plain.specs.Laws.All.{all-at, all-set, all-replicate}
-use Rattle.run.specs.Levels.{frameOf, levelOf, copiesRoom, noteRow, rowsCount, framesIn, levelsIn, Note, noteIn, Laid, Hold}
+use Rattle.run.specs.Levels.{frameOf, levelOf, copiesRoom, noteRow, rowsCount, framesIn, levelsIn, noteIn, Laid, Hold}
+use Rattle.machine.specs.Lines.{released}
+use Rattle.run.specs.Notes.{Note, withThrown, withLost, withLines, heeding}
 use Rattle.run.proofs.Tabled.{length-tabulated, tabulated-at, tabulated-same, tabulated-set}
 
 -- a row as wide as a level and its address
@@ -290,11 +292,82 @@ module _ (rows : List (List ℕ)) (copies : List ℕ) (laid : Laid rows copies) 
           note-is = note-is;
         }
 
+  -- one number of it
+  module _ (k value : ℕ) (h : k < suc localsCount) where
+    abbrev there : List ℕ
+    there = set (getD rows noteRow []) k value
+
+    pub there-wide : length there ≡ suc localsCount
+    there-wide = length-set (getD rows noteRow []) k value ∙ wide-at noteRow (omega arith)
+
+    pub put-there : getD there k 0 ≡ value
+    put-there = getD-set-same (getD rows noteRow []) k value 0 (omega (arith, wide-at noteRow (omega arith)))
+
+    pub others-there : (i : ℕ) → i ≢ k → getD there i 0 ≡ getD (getD rows noteRow []) i 0
+    others-there i ne = getD-set-other (getD rows noteRow []) k i value 0 ne
+
+  -- and what the memory lost
+  pub loss-made : (value more : ℕ) → value ≡ (noteIn rows .lost + more) % 2 ^ 32 →
+      Hold (set rows noteRow (set (getD rows noteRow []) 2 value)) copies (framesIn rows copies) (levelsIn rows copies)
+      (withLost ((noteIn rows .lost + more) % 2 ^ 32) (noteIn rows))
+  unfolding noteIn
+  loss-made value more e =
+      let other = others-there 2 value (omega arith) in
+      let wide = there-wide 2 value (omega arith) in
+      behind (there 2 value (omega arith)) wide
+      (rw (
+        note-there (there 2 value (omega arith)) wide,
+        put-there 2 value (omega arith) ∙ e,
+        other 0 (λ e. omega arith),
+        other 1 (λ e. omega arith),
+        other 3 (λ e. omega arith),
+        other 4 (λ e. omega arith),
+        other 5 (λ e. omega arith),
+        other 6 (λ e. omega arith),
+      ))
+
+  -- that the block is released
+  pub release-made :
+      Hold (set rows noteRow (set (getD rows noteRow []) 5 0)) copies (framesIn rows copies) (levelsIn rows copies) (withLines (released (noteIn rows .aside .lines)) (noteIn rows))
+  unfolding noteIn
+  release-made =
+      let other = others-there 5 0 (omega arith) in
+      let wide = there-wide 5 0 (omega arith) in
+      behind (there 5 0 (omega arith)) wide
+      (rw (
+        note-there (there 5 0 (omega arith)) wide,
+        put-there 5 0 (omega arith),
+        other 0 (λ e. omega arith),
+        other 1 (λ e. omega arith),
+        other 2 (λ e. omega arith),
+        other 3 (λ e. omega arith),
+        other 4 (λ e. omega arith),
+        other 6 (λ e. omega arith),
+      ))
+
+  -- that a line might enter
+  pub heed-made : Hold (set rows noteRow (set (getD rows noteRow []) 6 1)) copies (framesIn rows copies) (levelsIn rows copies) (heeding (noteIn rows))
+  unfolding noteIn
+  heed-made =
+      let other = others-there 6 1 (omega arith) in
+      let wide = there-wide 6 1 (omega arith) in
+      behind (there 6 1 (omega arith)) wide
+      (rw (
+        note-there (there 6 1 (omega arith)) wide,
+        put-there 6 1 (omega arith),
+        other 0 (λ e. omega arith),
+        other 1 (λ e. omega arith),
+        other 2 (λ e. omega arith),
+        other 3 (λ e. omega arith),
+        other 4 (λ e. omega arith),
+        other 5 (λ e. omega arith),
+      ))
+
   -- a THROW is noted there
   pub note-made : (address code : ℕ) →
       let once = set rows noteRow (set (getD rows noteRow []) 0 address) in
       Hold (set once noteRow (set (getD once noteRow []) 1 code)) copies (framesIn rows copies) (levelsIn rows copies)
-      (record { thrown = record { address = address; code = code }; lost = noteIn rows .lost })
+      (withThrown (record { address = address; code = code }) (noteIn rows))
   unfolding noteIn
   note-made address code =
       let old = getD rows noteRow [] in
@@ -306,24 +379,54 @@ module _ (rows : List (List ℕ)) (copies : List ℕ) (laid : Laid rows copies) 
       let widest : length row ≡ suc localsCount = length-set first 1 code ∙ wider in
       let noted : getD row 0 0 ≡ address = getD-set-other first 1 0 code 0 (λ e. omega arith) ∙ getD-set-same old 0 address 0 (omega (arith, wide)) in
       let coded : getD row 1 0 ≡ code = getD-set-same first 1 code 0 (omega (arith, wider)) in
-      let lost : getD row 2 0 ≡ getD old 2 0 = getD-set-other first 1 2 code 0 (λ e. omega arith) ∙ getD-set-other old 0 2 address 0 (λ e. omega arith) in
-      rw (set-in rows noteRow first 1 code within) (behind row widest (rw (note-there row widest, noted, coded, lost)))
+      let other : (i : ℕ) → i ≢ 0 → i ≢ 1 → getD row i 0 ≡ getD old i 0 = λ i a b. getD-set-other first 1 i code 0 b ∙ getD-set-other old 0 i address 0 a in
+      rw (set-in rows noteRow first 1 code within)
+      (behind row widest
+      (rw (
+        note-there row widest,
+        noted,
+        coded,
+        other 2 (λ e. omega arith) (λ e. omega arith),
+        other 3 (λ e. omega arith) (λ e. omega arith),
+        other 4 (λ e. omega arith) (λ e. omega arith),
+        other 5 (λ e. omega arith) (λ e. omega arith),
+        other 6 (λ e. omega arith) (λ e. omega arith),
+      )))
 
-  -- and what the memory lost
-  pub loss-made : (value more : ℕ) → value ≡ (noteIn rows .lost + more) % 2 ^ 32 →
-      Hold (set rows noteRow (set (getD rows noteRow []) 2 value)) copies (framesIn rows copies) (levelsIn rows copies)
-      (record { thrown = noteIn rows .thrown; lost = (noteIn rows .lost + more) % 2 ^ 32 })
+  -- and the lines
+  pub lines-made : (mask waiting block : ℕ) →
+      let once = set rows noteRow (set (getD rows noteRow []) 3 mask) in
+      let twice = set once noteRow (set (getD once noteRow []) 4 waiting) in
+      Hold (set twice noteRow (set (getD twice noteRow []) 5 block)) copies (framesIn rows copies) (levelsIn rows copies)
+      (withLines (record { mask = mask; waiting = waiting; block = block }) (noteIn rows))
   unfolding noteIn
-  loss-made value more e =
+  lines-made mask waiting block =
       let old = getD rows noteRow [] in
-      let row = set old 2 value in
-      let lost = (getD old 2 0 + more) % 2 ^ 32 in
+      let first = set old 3 mask in
+      let second = set first 4 waiting in
+      let row = set second 5 block in
+      let within : noteRow < length rows = omega (arith, laid .rows-long) in
       let wide : length old ≡ suc localsCount = wide-at noteRow (omega arith) in
-      let wider : length row ≡ suc localsCount = length-set old 2 value ∙ wide in
-      let address : getD row 0 0 ≡ getD old 0 0 = getD-set-other old 2 0 value 0 (λ e. omega arith) in
-      let code : getD row 1 0 ≡ getD old 1 0 = getD-set-other old 2 1 value 0 (λ e. omega arith) in
-      let here : getD row 2 0 ≡ lost = getD-set-same old 2 value 0 (omega (arith, wide)) ∙ e in
-      behind row wider (rw (note-there row wider, address, code, here))
+      let wider : length first ≡ suc localsCount = length-set old 3 mask ∙ wide in
+      let widest : length second ≡ suc localsCount = length-set first 4 waiting ∙ wider in
+      let long : length row ≡ suc localsCount = length-set second 5 block ∙ widest in
+      let masked : getD row 3 0 ≡ mask = getD-set-other second 5 3 block 0 (λ e. omega arith) ∙ (getD-set-other first 4 3 waiting 0 (λ e. omega arith) ∙ getD-set-same old 3 mask 0 (omega (arith, wide))) in
+      let waits : getD row 4 0 ≡ waiting = getD-set-other second 5 4 block 0 (λ e. omega arith) ∙ getD-set-same first 4 waiting 0 (omega (arith, wider)) in
+      let blocks : getD row 5 0 ≡ block = getD-set-same second 5 block 0 (omega (arith, widest)) in
+      let other : (i : ℕ) → i ≢ 3 → i ≢ 4 → i ≢ 5 → getD row i 0 ≡ getD old i 0 =
+      λ i a b c. getD-set-other second 5 i block 0 c ∙ (getD-set-other first 4 i waiting 0 b ∙ getD-set-other old 3 i mask 0 a) in
+      rw (set-in rows noteRow first 4 waiting within, set-in rows noteRow second 5 block within)
+      (behind row long
+      (rw (
+        note-there row long,
+        masked,
+        waits,
+        blocks,
+        other 0 (λ e. omega arith) (λ e. omega arith) (λ e. omega arith),
+        other 1 (λ e. omega arith) (λ e. omega arith) (λ e. omega arith),
+        other 2 (λ e. omega arith) (λ e. omega arith) (λ e. omega arith),
+        other 6 (λ e. omega arith) (λ e. omega arith) (λ e. omega arith),
+      )))
 
 -- a CATCH does all that a call does first
 pub caught-above : {rows rows′ : List (List ℕ)} {copies copies′ : List ℕ} {frames : List Frame} {levels : List Level} {note : Note} (e s p address : ℕ) →

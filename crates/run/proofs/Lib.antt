@@ -32,11 +32,17 @@ mod Again
 mod Tasked
 -- the loop: where it stands, a round, and the arms of a round
 mod Loop
+mod Calms
 mod Rounds
 mod Arms
+-- a line that enters, and the run that lines may enter
+mod Entering
+mod Serving
 -- the door
 mod Entry
 -- a run of tasks: machines and kept numbers as tasks, and the loop of turns
 mod Pairs
+mod Closings
 mod Turning
+mod Lining
 mod Seated

@@ -146,6 +146,20 @@ stored-loses n value lost₀ mem₀ mem mem′ at lost more few inside puts befo
     ap (λ (l : ℕ). l % 2 ^ 32) e ∙ (twice (lost + more) ∙ loses-on lost₀ lost more mem₀ mem mem′ before (ap (λ (l : ℕ). l % 2 ^ 32) now ∙ sum-below 0 mem′ mem))
 
 -- what is lost is taken off the sum
+-- what was lost by two stretches, one after the other
+reduced : (x y z : ℕ) → (x % 2 ^ 32 + y + z) % 2 ^ 32 ≡ (x + y + z) % 2 ^ 32
+reduced x y z = omega arith
+
+there-and-back : (x a b c : ℕ) → ((x + a + (2 ^ 32 - b % 2 ^ 32)) % 2 ^ 32 + b + (2 ^ 32 - c % 2 ^ 32)) % 2 ^ 32 ≡ (x + a + (2 ^ 32 - c % 2 ^ 32)) % 2 ^ 32
+there-and-back x a b c = omega arith
+
+pub lost-later : (lost₀ a b : ℕ) (mem₀ mem mem′ : List ℕ) → a % 2 ^ 32 ≡ sumAfter lost₀ mem mem₀ → b % 2 ^ 32 ≡ sumAfter a mem′ mem → b % 2 ^ 32 ≡ sumAfter lost₀ mem′ mem₀
+unfolding sumAfter
+lost-later lost₀ a b mem₀ mem mem′ first second =
+    second ∙
+    (sym (reduced a (sumOf mem) (2 ^ 32 - sumOf mem′ % 2 ^ 32)) ∙
+    (ap (λ (x : ℕ). (x + sumOf mem + (2 ^ 32 - sumOf mem′ % 2 ^ 32)) % 2 ^ 32) first ∙ there-and-back lost₀ (sumOf mem₀) (sumOf mem) (sumOf mem′)))
+
 pub sum-less : (sum lost : ℕ) (mem mem′ : List ℕ) → lost % 2 ^ 32 ≡ sumAfter 0 mem′ mem →
     (sum + (2 ^ 32 - lost % 2 ^ 32)) % 2 ^ 32 ≡ sumAfter sum mem mem′
 unfolding sumAfter

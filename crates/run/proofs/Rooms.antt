@@ -23,7 +23,7 @@ use Rattle.reach.specs.declared.Reached.{Reached}
 use Rattle.reach.specs.declared.Reached.the-variants as reached
 use Rattle.run.specs.Accesses.{reachOf, SpotWithin, ReachedWithin}
 use Rattle.run.specs.Levels.{viewCells}
-use Rattle.run.specs.Verdicts.{pushable, readable, callable, catchable, throwable, exitable}
+use Rattle.run.specs.Verdicts.{pushable, readable, callable, catchable, throwable, exitable, returnable}
 use Rattle.run.specs.declared.Throw.{Throw}
 use Rattle.run.specs.declared.Throw.the-variants.{Zero, Code}
 use Rattle.run.proofs.Drops.{positive}
@@ -68,6 +68,12 @@ catch-room {p} {r} {s} {e} h =
 pub exit-room : {s : ℕ} → exitable s ≡ gives tt → 0 < s
 unfolding exitable
 exit-room {s} e = positive s (eqb-false s 0 (passed (eqb s 0) 0 (gives tt) tt e .0))
+
+pub return-room : (block : ℕ) {s : ℕ} → returnable block s ≡ gives tt → 0 < s
+unfolding returnable
+return-room block {s} e =
+    let rest = passed (eqb block 0) 16 (pick (eqb s 0) (refuses 16) (gives tt)) tt e in
+    positive s (eqb-false s 0 (passed (eqb s 0) 16 (gives tt) tt (rest .1) .0))
 
 pub zero-room : (cells : List ℕ) {p : ℕ} (e : ℕ) {throw : Throw} → throwable cells p e ≡ gives throw → 1 ≤ p
 unfolding throwable

@@ -6,6 +6,7 @@ use Prim.Native.Nat.{ℕ, zero, suc, _+_, _-_, _*_, _≤_, _<_}
 use native.Mathlib.Nat.{not-suc-le-zero}
 use native.Mathlib.Omega.{arith}
 use borrow.Author.Tests.{eq-eqb, ne-eqb}
+use lib.Dec.{T}
 use lib.ListN.{length}
 use Rattle.plain.specs.Answer.{Answer, refuses, gives}
 use Rattle.plain.specs.Choice.{both}
@@ -21,19 +22,24 @@ use Rattle.machine.specs.Reach.{isForeign}
 use Rattle.machine.specs.Codes.{codePAUSE}
 use Rattle.machine.specs.Fetch.{instructionAt}
 use Rattle.machine.specs.Step.{Stepped, refused, done, carried, stepOf}
-use Rattle.machine.specs.Run.{ended, passes, runFrom}
+use Rattle.machine.specs.Lines.{letIn}
+use Rattle.machine.specs.Run.{ended, passes}
 use Rattle.machine.specs.Laws.Costs.{cost-bounded}
 use Rattle.machine.specs.Laws.Kept.{step-kept}
 use Rattle.machine.specs.Laws.Passed.{step-done}
-use Rattle.machine.specs.declared.LastThrow.{LastThrow}
+use Rattle.machine.specs.declared.Lines.{Lines}
 use Rattle.machine.specs.declared.Machine.{Machine}
 use Rattle.machine.specs.declared.Reach.{Reach}
 use Rattle.machine.specs.declared.Steps.{Steps}
 use Rattle.machine.specs.declared.Cycles.{Cycles}
+use Rattle.run.specs.Calm.{linesEnter, runIn, Quiet, Calm, heldIn}
 use Rattle.run.specs.Machines.{linksOf, inReach}
+use Rattle.run.specs.Notes.{Aside}
 use Rattle.run.specs.Promises.{fetchedOf, Fetches}
-use Rattle.run.specs.Registers.{machineIn, countedTo, haltedAt, haltedBy, pausedAt}
+use Rattle.run.specs.Registers.{machineIn, countedTo, haltedAt, haltedBy, pausedAt, partedAt}
+use Rattle.run.specs.Rounds.{Goes}
 use Rattle.run.specs.declared.Registers.{Registers}
+use Rattle.run.proofs.Calms.{calm-stays, calm-rises, unheld-calm, unheld-none}
 use Rattle.run.proofs.Answered.{Acts, by-gift, by-refusal}
 use Rattle.run.proofs.CutOff.{code-there, step-is, cut-off, foreign-refused}
 use Rattle.run.proofs.Loop.{Here, advances, pauses, stops, spends}
@@ -42,10 +48,12 @@ use Rattle.run.proofs.Loop.{Here, advances, pauses, stops, spends}
 pub record Going (reach : Reach) (inTurns : Bool) (mem₀ : List ℕ) (m₀ : Machine) (budget : ℕ) (mem : List ℕ) (m : Machine) (g : Registers) : Type 0 where
   pub none : g .unspent .0 ≡ 0
   pub unanswered : g .answer ≡ 1
+  pub unmarked : g .again ≡ false
+  pub calm : Calm (linesEnter reach) (m .lines) (m .links .r) (m .links .s)
   pub here : Here reach inTurns mem₀ m₀ budget mem m (budget - g .left .0) (g .cycles .0)
 
 -- what holds at the loop's head
-pub record Round (reach : Reach) (inTurns : Bool) (mem₀ : List ℕ) (m₀ : Machine) (budget : ℕ) (mem cells returns : List ℕ) (frames : List Frame) (levels : List Level) (thrown : LastThrow) (g : Registers) : Type 0 where
+pub record Round (reach : Reach) (inTurns : Bool) (mem₀ : List ℕ) (m₀ : Machine) (budget heeds₀ : ℕ) (mem cells returns : List ℕ) (frames : List Frame) (levels : List Level) (aside : Aside) (g : Registers) : Type 0 where
   pub p-within : g .p ≤ cellsDepth
   pub r-within : g .r ≤ returnsDepth
   pub s-within : g .s ≤ subroutinesDepth
@@ -57,9 +65,12 @@ pub record Round (reach : Reach) (inTurns : Bool) (mem₀ : List ℕ) (m₀ : Ma
   pub priced : g .cycles .0 ≤ 42 * (budget - g .left .0)
   pub long₀ : length mem₀ ≡ memoryLength
   pub long : length mem ≡ memoryLength
-  pub going : 0 < g .left .0 → Going reach inTurns mem₀ m₀ budget mem (machineIn cells returns frames levels thrown g) g
-  pub over : g .left .0 ≤ 0 →
-      ended (g .answer) mem (machineIn cells returns frames levels thrown g) (budget - g .unspent .0) (g .cycles .0) ≡ runFrom reach inTurns budget mem₀ m₀ 0 0
+  pub going : 0 < g .left .0 → Going reach inTurns mem₀ m₀ budget mem (machineIn cells returns frames levels aside g) g
+  pub over : g .left .0 ≤ 0 → g .again ≡ false →
+      ended (g .answer) mem (machineIn cells returns frames levels aside g) (budget - g .unspent .0) (g .cycles .0) ≡ runIn reach inTurns budget mem₀ m₀ 0 0
+  pub marks : g .again ≡ true → heeds₀ ≡ 0 → ⊥
+  pub answered : g .again ≡ true → g .answer ≡ 0
+  pub more : g .again ≡ true → Goes reach inTurns mem₀ m₀ budget mem (machineIn cells returns frames levels aside g) (g .unspent .0) (g .cycles .0)
 
 -- the top exception level's copies
 top-within : (copy : ℕ → ℕ) (limit n : ℕ) → 0 < n → Within copy limit n → copy n ≤ limit
@@ -82,17 +93,28 @@ halted-less {A} g {g′} eg e less =
     omega (arith, none)
 
 -- what an instruction leaves to the counting
-abbrev pub countsOf : Registers → Steps × (Cycles × (ℕ × Steps))
-countsOf g = (g .left, (g .cycles, (g .answer, g .unspent)))
+abbrev pub countsOf : Registers → Steps × (Cycles × (ℕ × (Steps × Bool)))
+countsOf g = (g .left, (g .cycles, (g .answer, (g .unspent, g .again))))
 
-module _ {reach : Reach} {inTurns : Bool} {mem₀ : List ℕ} {m₀ : Machine} {budget : ℕ} where
+-- not marked both ways
+marked : {A : Type 0} {b : Bool} → b ≡ false → b ≡ true → A
+marked not is = absurd (subst T (sym is ∙ not) tt)
+
+-- the lines are as they were, and the stacks no lower
+pub record Rising (aside aside′ : Aside) (g moved : Registers) : Type 0 where
+  pub lines-same : aside′ .lines ≡ aside .lines
+  pub r-rises : g .r ≤ moved .r
+  pub s-rises : g .s ≤ moved .s
+
+module _ {reach : Reach} {inTurns : Bool} {mem₀ : List ℕ} {m₀ : Machine} {budget heeds₀ : ℕ} where
   -- where the definition's run stands, the loop goes on
-  round-here : {mem cells returns : List ℕ} {frames : List Frame} {levels : List Level} {thrown : LastThrow} {g : Registers} →
-      g .answer ≡ 1 → g .unspent .0 ≡ 0 → g .left .0 ≤ budget →
-      Here reach inTurns mem₀ m₀ budget mem (machineIn cells returns frames levels thrown g) (budget - g .left .0) (g .cycles .0) →
-      Round reach inTurns mem₀ m₀ budget mem cells returns frames levels thrown g
-  round-here {mem} {cells} {returns} {frames} {levels} {thrown} {g} unanswered none within here =
-      let m = machineIn cells returns frames levels thrown g in
+  round-here : {mem cells returns : List ℕ} {frames : List Frame} {levels : List Level} {aside : Aside} {g : Registers} →
+      g .answer ≡ 1 → g .unspent .0 ≡ 0 → g .again ≡ false → g .left .0 ≤ budget →
+      (0 < g .left .0 → Calm (linesEnter reach) (aside .lines) (g .r) (g .s)) →
+      Here reach inTurns mem₀ m₀ budget mem (machineIn cells returns frames levels aside g) (budget - g .left .0) (g .cycles .0) →
+      Round reach inTurns mem₀ m₀ budget heeds₀ mem cells returns frames levels aside g
+  round-here {mem} {cells} {returns} {frames} {levels} {aside} {g} unanswered none unmarked within calm here =
+      let m = machineIn cells returns frames levels aside g in
       record {
         p-within = here .formed .p-within;
         r-within = here .formed .sound .r-within;
@@ -105,8 +127,11 @@ module _ {reach : Reach} {inTurns : Bool} {mem₀ : List ℕ} {m₀ : Machine} {
         priced = here .priced;
         long₀ = here .long₀;
         long = here .long;
-        going = λ less. record { none = none; unanswered = unanswered; here = here };
-        over = λ spent.
+        going = λ less. record { none = none; unanswered = unanswered; unmarked = unmarked; calm = calm less; here = here };
+        marks = λ is. marked unmarked is;
+        answered = λ is. marked unmarked is;
+        more = λ is. marked unmarked is;
+        over = λ spent not.
             let same : budget - g .unspent .0 ≡ budget - g .left .0 = omega arith in
             ap (λ (n : ℕ). ended (g .answer) mem m n (g .cycles .0)) same ∙
             (ap (λ (a : ℕ). ended a mem m (budget - g .left .0) (g .cycles .0)) unanswered ∙
@@ -114,26 +139,26 @@ module _ {reach : Reach} {inTurns : Bool} {mem₀ : List ℕ} {m₀ : Machine} {
       }
 
   -- nothing is spent at first
-  pub begins : {mem cells returns : List ℕ} {frames : List Frame} {levels : List Level} {thrown : LastThrow} {g : Registers} →
-      g .answer ≡ 1 → g .unspent .0 ≡ 0 → g .left .0 ≡ budget → g .cycles .0 ≡ 0 →
-      Here reach inTurns mem₀ m₀ budget mem (machineIn cells returns frames levels thrown g) 0 0 → Round reach inTurns mem₀ m₀ budget mem cells returns frames levels thrown g
-  begins {mem} {cells} {returns} {frames} {levels} {thrown} {g} unanswered none all free here =
-      let m = machineIn cells returns frames levels thrown g in
+  pub begins : {mem cells returns : List ℕ} {frames : List Frame} {levels : List Level} {aside : Aside} {g : Registers} →
+      g .answer ≡ 1 → g .unspent .0 ≡ 0 → g .again ≡ false → g .left .0 ≡ budget → g .cycles .0 ≡ 0 → Calm (linesEnter reach) (aside .lines) (g .r) (g .s) →
+      Here reach inTurns mem₀ m₀ budget mem (machineIn cells returns frames levels aside g) 0 0 → Round reach inTurns mem₀ m₀ budget heeds₀ mem cells returns frames levels aside g
+  begins {mem} {cells} {returns} {frames} {levels} {aside} {g} unanswered none unmarked all free calm here =
+      let m = machineIn cells returns frames levels aside g in
       let start : 0 ≡ budget - g .left .0 = omega arith in
-      round-here unanswered none (omega arith)
+      round-here unanswered none unmarked (omega arith) (λ less. calm)
       (subst (λ (n : ℕ). Here reach inTurns mem₀ m₀ budget mem m n (g .cycles .0)) start (subst (λ (c : ℕ). Here reach inTurns mem₀ m₀ budget mem m 0 c) (sym free) here))
 
-  module _ {mem cells returns : List ℕ} {frames : List Frame} {levels : List Level} {thrown : LastThrow} {g : Registers}
-      (round : Round reach inTurns mem₀ m₀ budget mem cells returns frames levels thrown g) (less : 0 < g .left .0)
+  module _ {mem cells returns : List ℕ} {frames : List Frame} {levels : List Level} {aside : Aside} {g : Registers}
+      (round : Round reach inTurns mem₀ m₀ budget heeds₀ mem cells returns frames levels aside g) (less : 0 < g .left .0)
     where
       abbrev here : Machine
-      here = machineIn cells returns frames levels thrown g
+      here = machineIn cells returns frames levels aside g
 
       -- the step is refused: the run is over, with the refusal's number, and the machine stays
       over-with : {number : ℕ} → stepOf reach mem here ≡ refused number → {g′ : Registers} → g′ ≡ haltedAt g number →
-          Round reach inTurns mem₀ m₀ budget mem cells returns frames levels thrown g′
+          Round reach inTurns mem₀ m₀ budget heeds₀ mem cells returns frames levels aside g′
       over-with {number} e {g′} eg =
-          subst⁻¹ (Round reach inTurns mem₀ m₀ budget mem cells returns frames levels thrown) eg
+          subst⁻¹ (Round reach inTurns mem₀ m₀ budget heeds₀ mem cells returns frames levels aside) eg
           (record {
             p-within = round .p-within;
             r-within = round .r-within;
@@ -147,36 +172,39 @@ module _ {reach : Reach} {inTurns : Bool} {mem₀ : List ℕ} {m₀ : Machine} {
             long₀ = round .long₀;
             long = round .long;
             going = λ h. absurd (omega arith);
-            over = λ spent.
+            marks = λ is. marked (round .going less .unmarked) is;
+            answered = λ is. marked (round .going less .unmarked) is;
+            more = λ is. marked (round .going less .unmarked) is;
+            over = λ spent not.
                 let within = round .left-within in
-                stops reach inTurns mem₀ m₀ budget mem here (budget - g .left .0) (g .cycles .0) number (round .going less .here) (omega arith) e;
+                stops reach inTurns mem₀ m₀ budget mem here (budget - g .left .0) (g .cycles .0) number (round .going less .here) (calm-stays (linesEnter reach) here (round .going less .calm)) (omega arith) e;
           })
 
       -- a byte of the instruction is in another's part
       pub foreign-ends : {b : Bool} → b ≡ isForeign (instructionAt reach mem (g .counter) .bar) → b ≡ true → {g′ : Registers} → g′ ≡ haltedAt g 17 →
-          Round reach inTurns mem₀ m₀ budget mem cells returns frames levels thrown g′
+          Round reach inTurns mem₀ m₀ budget heeds₀ mem cells returns frames levels aside g′
       foreign-ends eb e eg = over-with (foreign-refused reach mem here (sym eb ∙ e)) eg
 
       -- nothing is fetched
       pub fetch-ends : {said : Reach → Answer _} → Fetches mem (g .counter) said → {b : Bool} → b ≡ isForeign (instructionAt reach mem (g .counter) .bar) → b ≡ false →
-          {number : ℕ} → said reach ≡ refuses number → {g′ : Registers} → g′ ≡ haltedAt g number → Round reach inTurns mem₀ m₀ budget mem cells returns frames levels thrown g′
+          {number : ℕ} → said reach ≡ refuses number → {g′ : Registers} → g′ ≡ haltedAt g number → Round reach inTurns mem₀ m₀ budget heeds₀ mem cells returns frames levels aside g′
       fetch-ends {said} ef eb own {number} e eg = over-with (cut-off reach mem here number (sym (ef reach (sym eb ∙ own)) ∙ e)) eg
 
 -- an instruction is fetched, with budget left
-pub record Found (reach : Reach) (inTurns : Bool) (mem₀ : List ℕ) (m₀ : Machine) (budget : ℕ) (mem cells returns : List ℕ) (frames : List Frame) (levels : List Level) (thrown : LastThrow) (g : Registers)
+pub record Found (reach : Reach) (inTurns : Bool) (mem₀ : List ℕ) (m₀ : Machine) (budget heeds₀ : ℕ) (mem cells returns : List ℕ) (frames : List Frame) (levels : List Level) (aside : Aside) (g : Registers)
     (code operand next : ℕ) : Type 0 where
-  pub round : Round reach inTurns mem₀ m₀ budget mem cells returns frames levels thrown g
+  pub round : Round reach inTurns mem₀ m₀ budget heeds₀ mem cells returns frames levels aside g
   pub less : 0 < g .left .0
   pub fetched : fetchedOf (instructionAt reach mem (g .counter)) ≡ gives (inReach reach code operand next)
 
-module _ {reach : Reach} {inTurns : Bool} {mem₀ : List ℕ} {m₀ : Machine} {budget : ℕ} {mem cells returns : List ℕ} {frames : List Frame} {levels : List Level} {thrown : LastThrow} {g : Registers}
-    {code operand next : ℕ} (found : Found reach inTurns mem₀ m₀ budget mem cells returns frames levels thrown g code operand next)
+module _ {reach : Reach} {inTurns : Bool} {mem₀ : List ℕ} {m₀ : Machine} {budget heeds₀ : ℕ} {mem cells returns : List ℕ} {frames : List Frame} {levels : List Level} {aside : Aside} {g : Registers}
+    {code operand next : ℕ} (found : Found reach inTurns mem₀ m₀ budget heeds₀ mem cells returns frames levels aside g code operand next)
   where
-    is-step : stepOf reach mem (machineIn cells returns frames levels thrown g) ≡ carried (inReach reach code operand next) mem (machineIn cells returns frames levels thrown g)
-    is-step = step-is reach mem (machineIn cells returns frames levels thrown g) code operand next (found .fetched)
+    is-step : stepOf reach mem (machineIn cells returns frames levels aside g) ≡ carried (inReach reach code operand next) mem (machineIn cells returns frames levels aside g)
+    is-step = step-is reach mem (machineIn cells returns frames levels aside g) code operand next (found .fetched)
 
     -- PAUSE alone passes a turn
-    no-pause : (code ≡ codePAUSE → ⊥) → passes inTurns mem (machineIn cells returns frames levels thrown g) ≡ false
+    no-pause : (code ≡ codePAUSE → ⊥) → passes inTurns mem (machineIn cells returns frames levels aside g) ≡ false
     no-pause other =
         ap (both inTurns) (ne-eqb (byteAt mem (g .counter)) codePAUSE (λ h. other (sym (code-there reach mem (g .counter) code operand next (found .fetched)) ∙ h))) ∙
         neither inTurns
@@ -185,7 +213,7 @@ module _ {reach : Reach} {inTurns : Bool} {mem₀ : List ℕ} {m₀ : Machine} {
         neither true = refl
         neither false = refl
 
-    a-pause : code ≡ codePAUSE → passes inTurns mem (machineIn cells returns frames levels thrown g) ≡ inTurns
+    a-pause : code ≡ codePAUSE → passes inTurns mem (machineIn cells returns frames levels aside g) ≡ inTurns
     a-pause is =
         ap (both inTurns) (eq-eqb (byteAt mem (g .counter)) codePAUSE (code-there reach mem (g .counter) code operand next (found .fetched) ∙ is)) ∙ itself inTurns
       where
@@ -194,15 +222,18 @@ module _ {reach : Reach} {inTurns : Bool} {mem₀ : List ℕ} {m₀ : Machine} {
         itself false = refl
 
     -- a step that is carried out and counted
-    module _ {mem′ cells′ returns′ : List ℕ} {frames′ : List Frame} {levels′ : List Level} {thrown′ : LastThrow} {moved : Registers} {cost : ℕ}
-        (steps : carried (inReach reach code operand next) mem (machineIn cells returns frames levels thrown g) ≡ done mem′ (machineIn cells′ returns′ frames′ levels′ thrown′ moved) cost)
+    module _ {mem′ cells′ returns′ : List ℕ} {frames′ : List Frame} {levels′ : List Level} {aside′ : Aside} {moved : Registers} {cost : ℕ}
+        (steps : carried (inReach reach code operand next) mem (machineIn cells returns frames levels aside g) ≡ done mem′ (machineIn cells′ returns′ frames′ levels′ aside′ moved) cost)
         (same : countsOf moved ≡ countsOf g) {price : ℕ} (ep : price ≡ cost)
       where
         abbrev old : Machine
-        old = machineIn cells returns frames levels thrown g
+        old = machineIn cells returns frames levels aside g
 
         abbrev new : Machine
-        new = machineIn cells′ returns′ frames′ levels′ thrown′ moved
+        new = machineIn cells′ returns′ frames′ levels′ aside′ moved
+
+        again-same : moved .again ≡ g .again
+        again-same = ap (λ x. x .1 .1 .1 .1) same
 
         left-same : moved .left .0 ≡ g .left .0
         left-same = ap (λ x. x .0 .0) same
@@ -211,21 +242,74 @@ module _ {reach : Reach} {inTurns : Bool} {mem₀ : List ℕ} {m₀ : Machine} {
         cycles-same = ap (λ x. x .1 .0 .0) same
 
         -- where it passes no turn, the loop goes on
-        on : passes inTurns mem old ≡ false → Round reach inTurns mem₀ m₀ budget mem′ cells′ returns′ frames′ levels′ thrown′ (countedTo moved price)
-        on not =
+        still : letIn (linesEnter reach) old ≡ old
+        still = calm-stays (linesEnter reach) old (found .round .going (found .less) .calm)
+
+        -- where the definition's run then stands
+        there : passes inTurns mem old ≡ false → Here reach inTurns mem₀ m₀ budget mem′ new (budget - (moved .left .0 - 1)) (moved .cycles .0 + price)
+        there not =
             let now = found .round .going (found .less) in
             let within = found .round .left-within in
             let less = found .less in
             let left = left-same in
             let cycles = cycles-same in
+            advances reach inTurns mem₀ m₀ budget mem old (budget - g .left .0) (g .cycles .0) mem′ new cost (budget - (moved .left .0 - 1)) (moved .cycles .0 + price)
+            (now .here) still (omega arith) (is-step ∙ steps) not (omega arith) (omega arith)
+
+        on : passes inTurns mem old ≡ false → (0 < moved .left .0 - 1 → Calm (linesEnter reach) (aside′ .lines) (moved .r) (moved .s)) → Round reach inTurns mem₀ m₀ budget heeds₀ mem′ cells′ returns′ frames′ levels′ aside′ (countedTo moved price)
+        on not calm =
+            let now = found .round .going (found .less) in
+            let within = found .round .left-within in
+            let left = left-same in
             let answer : moved .answer ≡ g .answer = ap (λ x. x .1 .1 .0) same in
-            let unspent : moved .unspent .0 ≡ g .unspent .0 = ap (λ x. x .1 .1 .1 .0) same in
-            round-here (answer ∙ now .unanswered) (unspent ∙ now .none) (omega arith)
-            (advances reach inTurns mem₀ m₀ budget mem old (budget - g .left .0) (g .cycles .0) mem′ new cost (budget - (moved .left .0 - 1)) (moved .cycles .0 + price)
-            (now .here) (omega arith) (is-step ∙ steps) not (omega arith) (omega arith))
+            let unspent : moved .unspent .0 ≡ g .unspent .0 = ap (λ x. x .1 .1 .1 .0 .0) same in
+            round-here (answer ∙ now .unanswered) (unspent ∙ now .none) (again-same ∙ now .unmarked) (omega arith) calm (there not)
+
+        -- where a line might enter, the loop ends and the run goes on
+        parts-on : passes inTurns mem old ≡ false → {heeds : ℕ} → heeds ≡ heeds₀ → (b : Bool) → heldIn heeds (aside′ .lines) ≡ b → (heeds ≡ 0 → Quiet (linesEnter reach) (aside′ .lines)) →
+            Round reach inTurns mem₀ m₀ budget heeds₀ mem′ cells′ returns′ frames′ levels′ aside′ (partedAt (countedTo moved price) b)
+        parts-on not heeds-are false held unheeded = on not (λ less. unheld-calm unheeded held)
+        parts-on not heeds-are true held unheeded =
+            let h = there not in
+            let within = found .round .left-within in
+            let less = found .less in
+            let left = left-same in
+            let left-then : budget - (budget - (moved .left .0 - 1)) ≡ moved .left .0 - 1 = omega arith in
+            record {
+              p-within = h .formed .p-within;
+              r-within = h .formed .sound .r-within;
+              s-within = h .formed .sound .s-within;
+              e-within = h .formed .sound .e-within;
+              catcher = copies-within (linksOf returns′ (moved .r) frames′ (moved .s) levels′ (moved .e)) (h .formed .sound);
+              left-within = omega arith;
+              limit = h .limit;
+              unspent-within = omega arith;
+              priced = omega (arith, h .priced);
+              long₀ = h .long₀;
+              long = h .long;
+              going = λ none. absurd (omega arith);
+              over = λ spent not. marked not refl;
+              marks = λ is h. marked (unheld-none (aside′ .lines) (heeds-are ∙ h)) held;
+              answered = λ is. refl;
+              more = λ is.
+                  record {
+                    less = omega arith;
+                    rest = h .same ∙ ap (λ (n : ℕ). runIn reach inTurns n mem′ new (budget - (moved .left .0 - 1)) (moved .cycles .0 + price)) left-then;
+                    priced = h .priced;
+                    long = h .long;
+                    whole = h .whole;
+                    formed = h .formed;
+                  };
+            }
+
+        -- what keeps the stacks no lower keeps lines out
+        risen : Rising aside aside′ g moved → Calm (linesEnter reach) (aside′ .lines) (moved .r) (moved .s)
+        risen rising =
+            subst⁻¹ (λ (l : Lines). Calm (linesEnter reach) l (moved .r) (moved .s)) (rising .lines-same)
+            (calm-rises (found .round .going (found .less) .calm) (rising .r-rises) (rising .s-rises))
 
         -- where it does, the run is over behind it
-        over-behind : passes inTurns mem old ≡ true → Round reach inTurns mem₀ m₀ budget mem′ cells′ returns′ frames′ levels′ thrown′ (haltedAt (countedTo moved price) 1)
+        over-behind : passes inTurns mem old ≡ true → Round reach inTurns mem₀ m₀ budget heeds₀ mem′ cells′ returns′ frames′ levels′ aside′ (haltedAt (countedTo moved price) 1)
         over-behind passed =
             let here = found .round .going (found .less) .here in
             let within = found .round .left-within in
@@ -249,35 +333,53 @@ module _ {reach : Reach} {inTurns : Bool} {mem₀ : List ℕ} {m₀ : Machine} {
               long₀ = here .long₀;
               long = good .same-length ∙ here .long;
               going = λ h. absurd (omega arith);
-              over = λ spent.
+              marks = λ is. marked (again-same ∙ found .round .going (found .less) .unmarked) is;
+              answered = λ is. marked (again-same ∙ found .round .going (found .less) .unmarked) is;
+              more = λ is. marked (again-same ∙ found .round .going (found .less) .unmarked) is;
+              over = λ spent not.
                   pauses reach inTurns mem₀ m₀ budget mem old (budget - g .left .0) (g .cycles .0) mem′ new cost (budget - (moved .left .0 - 1)) (moved .cycles .0 + price)
-                  here (omega arith) (is-step ∙ steps) passed (omega arith) (omega arith);
+                  here still (omega arith) (is-step ∙ steps) passed (omega arith) (omega arith);
             }
 
         -- a PAUSE: the loop goes on, or the turn is passed
-        pub paused : code ≡ codePAUSE → {counted : Registers} → counted ≡ countedTo moved price → {g′ : Registers} → g′ ≡ pausedAt counted inTurns →
-            Round reach inTurns mem₀ m₀ budget mem′ cells′ returns′ frames′ levels′ thrown′ g′
-        paused is ec eg =
-            subst⁻¹ (Round reach inTurns mem₀ m₀ budget mem′ cells′ returns′ frames′ levels′ thrown′) (eg ∙ ap (λ (x : Registers). pausedAt x inTurns) ec) (go inTurns refl)
+        pub paused : Rising aside aside′ g moved → code ≡ codePAUSE → {counted : Registers} → counted ≡ countedTo moved price → {g′ : Registers} → g′ ≡ pausedAt counted inTurns →
+            Round reach inTurns mem₀ m₀ budget heeds₀ mem′ cells′ returns′ frames′ levels′ aside′ g′
+        paused rising is ec eg =
+            subst⁻¹ (Round reach inTurns mem₀ m₀ budget heeds₀ mem′ cells′ returns′ frames′ levels′ aside′) (eg ∙ ap (λ (x : Registers). pausedAt x inTurns) ec) (go inTurns refl)
           where
-            go : (b : Bool) → inTurns ≡ b → Round reach inTurns mem₀ m₀ budget mem′ cells′ returns′ frames′ levels′ thrown′ (pausedAt (countedTo moved price) b)
+            stays : Calm (linesEnter reach) (aside′ .lines) (moved .r) (moved .s)
+            stays = risen rising
+
+            go : (b : Bool) → inTurns ≡ b → Round reach inTurns mem₀ m₀ budget heeds₀ mem′ cells′ returns′ frames′ levels′ aside′ (pausedAt (countedTo moved price) b)
             go true e = over-behind (a-pause is ∙ e)
-            go false e = on (a-pause is ∙ e)
+            go false e = on (a-pause is ∙ e) (λ less. stays)
 
     module _ {A : Type 0} {said : Answer A} {after : A → Stepped}
-        (acts : Acts (inReach reach code operand next) mem (machineIn cells returns frames levels thrown g) said after)
+        (acts : Acts (inReach reach code operand next) mem (machineIn cells returns frames levels aside g) said after)
       where
         -- a check refuses: the run is over
         pub ends : {number : ℕ} → said ≡ refuses number → {heard : Answer A} → heard ≡ said → {g′ : Registers} → g′ ≡ haltedBy heard g →
-            Round reach inTurns mem₀ m₀ budget mem cells returns frames levels thrown g′
+            Round reach inTurns mem₀ m₀ budget heeds₀ mem cells returns frames levels aside g′
         ends {number} e {heard} eh eg =
             over-with (found .round) (found .less) (is-step ∙ by-refusal acts e) (eg ∙ ap (λ (a : Answer A). haltedBy a g) (eh ∙ e))
 
-        -- the instruction is carried out and counted: the loop goes on
+        -- the instruction is carried out and counted, and no line can enter: the loop goes on
         pub goes : {values : A} → said ≡ gives values →
-            {mem′ cells′ returns′ : List ℕ} {frames′ : List Frame} {levels′ : List Level} {thrown′ : LastThrow} {moved : Registers} {cost : ℕ} →
-            after values ≡ done mem′ (machineIn cells′ returns′ frames′ levels′ thrown′ moved) cost → countsOf moved ≡ countsOf g →
+            {mem′ cells′ returns′ : List ℕ} {frames′ : List Frame} {levels′ : List Level} {aside′ : Aside} {moved : Registers} {cost : ℕ} →
+            after values ≡ done mem′ (machineIn cells′ returns′ frames′ levels′ aside′ moved) cost → countsOf moved ≡ countsOf g → Rising aside aside′ g moved →
             {price : ℕ} → price ≡ cost → {g′ : Registers} → g′ ≡ countedTo moved price →
-            Round reach inTurns mem₀ m₀ budget mem′ cells′ returns′ frames′ levels′ thrown′ g′
-        goes e {mem′} {cells′} {returns′} {frames′} {levels′} {thrown′} ea same ep eg =
-            subst⁻¹ (Round reach inTurns mem₀ m₀ budget mem′ cells′ returns′ frames′ levels′ thrown′) eg (on (by-gift acts e ∙ ea) same ep (no-pause (acts .on)))
+            Round reach inTurns mem₀ m₀ budget heeds₀ mem′ cells′ returns′ frames′ levels′ aside′ g′
+        goes e {mem′} {cells′} {returns′} {frames′} {levels′} {aside′} ea same rising ep eg =
+            subst⁻¹ (Round reach inTurns mem₀ m₀ budget heeds₀ mem′ cells′ returns′ frames′ levels′ aside′) eg
+            (on (by-gift acts e ∙ ea) same ep (no-pause (acts .on)) (λ less. risen (by-gift acts e ∙ ea) same ep rising))
+
+        -- the same where one might
+        pub goes-in : {values : A} → said ≡ gives values →
+            {mem′ cells′ returns′ : List ℕ} {frames′ : List Frame} {levels′ : List Level} {aside′ : Aside} {moved : Registers} {cost : ℕ} →
+            after values ≡ done mem′ (machineIn cells′ returns′ frames′ levels′ aside′ moved) cost → countsOf moved ≡ countsOf g →
+            {price : ℕ} → price ≡ cost → {counted : Registers} → counted ≡ countedTo moved price → {heeds : ℕ} → heeds ≡ heeds₀ → {b : Bool} → b ≡ heldIn heeds (aside′ .lines) →
+            {g′ : Registers} → g′ ≡ partedAt counted b → (heeds ≡ 0 → Quiet (linesEnter reach) (aside′ .lines)) →
+            Round reach inTurns mem₀ m₀ budget heeds₀ mem′ cells′ returns′ frames′ levels′ aside′ g′
+        goes-in e {mem′} {cells′} {returns′} {frames′} {levels′} {aside′} ea same ep ec {heeds} heeds-are {b} eb eg unheeded =
+            subst⁻¹ (Round reach inTurns mem₀ m₀ budget heeds₀ mem′ cells′ returns′ frames′ levels′ aside′) (eg ∙ ap (λ (x : Registers). partedAt x b) ec)
+            (parts-on (by-gift acts e ∙ ea) same ep (no-pause (acts .on)) heeds-are b (sym eb) unheeded)

@@ -10,7 +10,8 @@ use lib.Seq.{getD-set-same, getD-set-other}
 use Rattle.machine.specs.Limits.{tasksCount}
 use Rattle.machine.specs.Tasks.{noMachine}
 use Rattle.machine.specs.declared.Machine.{Machine}
-use Rattle.run.specs.Levels.{pointersOf, noPointers, inRows, taskIn, machinesIn, Laid, Hold, AllLaid, Seats}
+use Rattle.run.specs.Levels.{pointersOf, noPointers, inRows, taskIn, machinesIn, Laid, Hold, AllLaid, Seats, noteIn, HeedsSame}
+use Rattle.run.specs.Notes.{asideOf, noteOf}
 use Rattle.run.specs.declared.Pointers.{Pointers}
 use Rattle.run.proofs.Again.{whole-again}
 use Rattle.run.proofs.Filled.{Filled, filled-none, filled-next, filled-all}
@@ -80,6 +81,16 @@ module _ {cells returns : List (List ℕ)} {rows : List (List (List ℕ))} {copi
           getD-set-other saved t i at noPointers ne,
         ))
 
+-- one row that notes of lines what was noted
+pub heeds-kept : (rows₀ rows : List (List (List ℕ))) (t : ℕ) (row : List (List ℕ)) → getD (set rows t row) t [] ≡ row →
+    noteIn row .heeds ≡ noteIn (getD rows t []) .heeds → HeedsSame rows₀ rows → HeedsSame rows₀ (set rows t row)
+heeds-kept rows₀ rows t row there same before i less =
+    dite (ℕ-discrete i t)
+    (λ (e : i ≡ t).
+    ap (λ (j : ℕ). noteIn (getD (set rows t row) j []) .heeds) e ∙
+    (ap (λ (r : List (List ℕ)). noteIn r .heeds) there ∙ (same ∙ (ap (λ (j : ℕ). noteIn (getD rows j []) .heeds) (sym e) ∙ before i less))))
+    (λ (ne : i ≢ t). ap (λ (r : List (List ℕ)). noteIn r .heeds) (getD-set-other rows t i row [] ne) ∙ before i less)
+
 -- the first t machines are written
 pub record Apart (machines : List Machine) (cells returns : List (List ℕ)) (rows : List (List (List ℕ))) (copies : List (List ℕ)) (saved : List Pointers) (t : ℕ) : Type 0 where
   pub seats : Seats cells returns rows copies saved
@@ -97,8 +108,8 @@ module _ (machines : List Machine) (cells returns : List (List ℕ)) (rows : Lis
     pub apart-all : tasksCount ≤ t → machinesIn cells returns rows copies saved ≡ machines
     apart-all over = filled-all tasksCount machines (machinesIn cells returns rows copies saved) t (now .filled) over
 
-    pub apart-next : t < tasksCount → (row : List (List ℕ)) (copy : List ℕ) (at : Pointers) {lost : ℕ} →
-        Hold row copy (getD machines t noMachine .links .frames) (getD machines t noMachine .links .levels) (record { thrown = getD machines t noMachine .thrown; lost = lost }) → at ≡ pointersOf (getD machines t noMachine) →
+    pub apart-next : t < tasksCount → (row : List (List ℕ)) (copy : List ℕ) (at : Pointers) {lost heeds : ℕ} →
+        Hold row copy (getD machines t noMachine .links .frames) (getD machines t noMachine .links .levels) (noteOf (asideOf (getD machines t noMachine .thrown) (getD machines t noMachine .lines)) lost heeds) → at ≡ pointersOf (getD machines t noMachine) →
         Apart machines (set cells t (getD machines t noMachine .cells)) (set returns t (getD machines t noMachine .links .returns)) (set rows t row) (set copies t copy)
         (set saved t at) (t + 1)
     apart-next h row copy at held is =

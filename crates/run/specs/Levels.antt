@@ -11,9 +11,9 @@ use Rattle.links.specs.Linked.{noFrame, noLevel}
 use Rattle.links.specs.declared.Frame.{Frame}
 use Rattle.links.specs.declared.Level.{Level}
 use Rattle.machine.specs.Limits.{tasksCount}
-use Rattle.machine.specs.declared.LastThrow.{LastThrow}
 use Rattle.machine.specs.declared.Machine.{Machine}
 use Rattle.run.specs.Machines.{linksOf}
+use Rattle.run.specs.Notes.{Note, asideOf, noteOf}
 use Rattle.run.specs.declared.Pointers.{Pointers}
 use Rattle.run.specs.declared.Registers.{Registers}
 
@@ -47,11 +47,7 @@ framesIn rows copies = tabulated framesCount (frameOf rows copies)
 unfoldable pub levelsIn : List (List ℕ) → List ℕ → List Level
 levelsIn rows copies = tabulated levelsCount (levelOf rows copies)
 
--- what stands in a row behind those of the levels: the last THROW, its address and then its code; and what the memory lost, modulo 2^32
-pub record Note : Type 0 where
-  pub thrown : LastThrow
-  pub lost : ℕ
-
+-- the note stands in a row behind those of the levels
 abbrev pub noteRow : ℕ
 noteRow = framesCount + levelsCount
 
@@ -61,7 +57,9 @@ rowsCount = noteRow + 1
 unfoldable pub noteIn : List (List ℕ) → Note
 noteIn rows =
     let row = getD rows noteRow [] in
-    record { thrown = record { address = getD row 0 0; code = getD row 1 0 }; lost = getD row 2 0 }
+    noteOf
+    (asideOf (record { address = getD row 0 0; code = getD row 1 0 }) (record { mask = getD row 3 0; waiting = getD row 4 0; block = getD row 5 0 }))
+    (getD row 2 0) (getD row 6 0)
 
 -- the lists are as long as the arrays that they stand for, and the cells of every level are numbers of 32 bits
 pub record Laid (rows : List (List ℕ)) (copies : List ℕ) : Type 0 where
@@ -114,12 +112,17 @@ inRows cells returns rows copies at =
       links = linksOf returns (at .r) (framesIn rows copies) (at .s) (levelsIn rows copies) (at .e);
       counter = at .counter;
       flag = at .flag;
-      thrown = noteIn rows .thrown;
+      thrown = noteIn rows .aside .thrown;
+      lines = noteIn rows .aside .lines;
     }
 
 -- what the memory lost by the stores of each of four machines
 unfoldable pub lossesIn : List (List (List ℕ)) → List ℕ
 lossesIn rows = tabulated tasksCount (λ t. noteIn (getD rows t []) .lost)
+
+-- whether a line might enter each of them is noted as it was
+abbrev pub HeedsSame : List (List (List ℕ)) → List (List (List ℕ)) → Type 0
+HeedsSame rows rows′ = (t : ℕ) → t < tasksCount → noteIn (getD rows′ t []) .heeds ≡ noteIn (getD rows t []) .heeds
 
 -- what a read past an array's end gives: every number zero
 abbrev pub noPointers : Pointers

@@ -6,10 +6,16 @@ pub mod Answers
 pub mod Verdicts
 pub mod Accesses
 pub mod Operations
+-- what stands behind the levels
+pub mod Notes
+-- when no line can enter
+pub mod Calm
 -- what the registers become
 pub mod Registers
 -- a machine with a row of numbers for each level
 pub mod Levels
+-- what a line that enters makes of a machine
+pub mod Entries
 -- what the memory loses by a store
 pub mod Losses
 -- what a run of tasks counts

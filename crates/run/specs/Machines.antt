@@ -18,7 +18,7 @@ linksOf returns r frames s levels e =
 
 -- a machine with other parameter cells, depth, counter and flag
 abbrev pub withStack : List ℕ → ℕ → ℕ → ℕ → Machine → Machine
-withStack cells p counter flag m = record { cells = cells; p = p; links = m .links; counter = counter; flag = flag; thrown = m .thrown }
+withStack cells p counter flag m = record { cells = cells; p = p; links = m .links; counter = counter; flag = flag; thrown = m .thrown; lines = m .lines }
 
 -- an instruction all of whose bytes may be read
 abbrev pub inReach : Reach → ℕ → ℕ → ℕ → Instruction

@@ -88,6 +88,7 @@ pub record Unlinked (code : ℕ) : Type 0 where
   pub not32 : code ≡ 0x32 → ⊥
   pub not38 : code ≡ 0x38 → ⊥
   pub not39 : code ≡ 0x39 → ⊥
+  pub not3C : code ≡ 0x3C → ⊥
   pub not3D : code ≡ 0x3D → ⊥
   pub not3E : code ≡ 0x3E → ⊥
 

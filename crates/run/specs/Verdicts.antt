@@ -34,6 +34,10 @@ throwable cells p e =
 unfoldable pub exitable : ℕ → Answer (Unit {0})
 exitable s = pick (eqb s 0) (refuses 0) (gives tt)
 
+-- RTI needs a routine in progress, and a level to leave
+unfoldable pub returnable : ℕ → ℕ → Answer (Unit {0})
+returnable block s = pick (eqb block 0) (refuses 16) (pick (eqb s 0) (refuses 16) (gives tt))
+
 unfoldable pub sAfterPop : ℕ → ℕ → ℕ → ℕ
 sAfterPop r s copy = pick (eqb s 0) s (pick (leb r copy) (s - 1) s)
 

@@ -4,6 +4,7 @@ use crate::Registers;
 use crate::linked;
 use crate::parts;
 use crate::round;
+use crate::served;
 use crate::sums;
 use machine::CYCLES;
 use machine::Cycles;
@@ -18,7 +19,7 @@ ghost use Prim.Native.Nat.{ℕ, _-_, _≤_};
 ghost use Rattle.machine.specs.Limits.{mostSum};
 ghost use Rattle.machine.specs.Sum.{sumAfter};
 ghost use Rattle.machine.specs.Reach.{alone};
-ghost use Rattle.machine.specs.Run.{acceptable, runFrom, afterOf};
+ghost use Rattle.machine.specs.Run.{acceptable, byItself, runFrom, afterOf};
 ghost use Rattle.machine.specs.Run as run;
 ghost use Rattle.run.specs.Machines.{ranOf};
 ghost use Rattle.run.specs.Registers.{machineIn};
@@ -63,7 +64,7 @@ fn finished(
     budget: u32,
 ) -> Ran
     requires { ⌜ (regs .unspent .0 ≤ budget) × Laid (now rows) (now copies) ⌝ }
-    ensures { λ ran. ⌜ ((mem : List ℕ) → afterOf mem ran ≡ run.ended (regs .answer) mem (machineIn (now (cells .entry)) (now (returns .entry)) (framesIn (now (rows .entry)) (now (copies .entry))) (levelsIn (now (rows .entry)) (now (copies .entry))) (noteIn (now (rows .entry)) .thrown) regs) (budget - regs .unspent .0) (regs .cycles .0)) ⌝ }
+    ensures { λ ran. ⌜ ((mem : List ℕ) → afterOf mem ran ≡ run.ended (regs .answer) mem (machineIn (now (cells .entry)) (now (returns .entry)) (framesIn (now (rows .entry)) (now (copies .entry))) (levelsIn (now (rows .entry)) (now (copies .entry))) (noteIn (now (rows .entry)) .aside) regs) (budget - regs .unspent .0) (regs .cycles .0)) ⌝ }
 {
     let machine = parts::whole(cells, returns, rows, copies, parts::left_in(regs));
     let cycles = regs.cycles;
@@ -72,7 +73,7 @@ fn finished(
 
 pub(crate) fn any(mem: &mut [u8], machine: Machine, budget: u32, sum: &mut u64) -> Ran
     requires { ⌜ (acceptable (now mem) machine budget ≡ true) × (now sum ≤ mostSum) ⌝ }
-    ensures { λ ran. ⌜ (afterOf (now (mem .exit)) ran ≡ runFrom alone false budget (now (mem .entry)) machine 0 0) × (now (sum .exit) ≡ sumAfter (now (sum .entry)) (now (mem .entry)) (now (mem .exit))) ⌝ }
+    ensures { λ ran. ⌜ (afterOf (now (mem .exit)) ran ≡ runFrom alone byItself budget (now (mem .entry)) machine 0 0) × (now (sum .exit) ≡ sumAfter (now (sum .entry)) (now (mem .entry)) (now (mem .exit))) ⌝ }
 {
     let costs = CYCLES;
     let links = machine.links;
@@ -81,9 +82,10 @@ pub(crate) fn any(mem: &mut [u8], machine: Machine, budget: u32, sum: &mut u64) 
     let mut rows = [[0u32; linked::ROW]; linked::ROWS];
     let mut copies = [0usize; linked::COPIES];
     let thrown = machine.thrown;
-    parts::apart(links, thrown, &mut rows, &mut copies);
+    let lines = machine.lines;
+    parts::apart(links, thrown, lines, &mut rows, &mut copies);
     let start = parts::pointers(machine);
-    let regs = round::rounds(
+    let regs = served::served(
         mem,
         &mut cells,
         &mut returns,
@@ -93,16 +95,15 @@ pub(crate) fn any(mem: &mut [u8], machine: Machine, budget: u32, sum: &mut u64) 
         start,
         budget,
         ALONE,
-        false,
     );
     *sum = sums::less(*sum, linked::lost(&rows));
     finished(&cells, &returns, &rows, &copies, regs, budget)
 }
 
-// Where all links are fresh, so are the rows: nothing is taken apart.
+// Where all links are fresh, so are the rows: nothing is taken apart, and no line waits.
 pub(crate) fn fresh(mem: &mut [u8], filled: [u32; Machine::CELLS], p: usize, budget: u32) -> Ran
     requires { ⌜ acceptable (now mem) (freshWith filled p) budget ≡ true ⌝ }
-    ensures { λ ran. ⌜ afterOf (now (mem .exit)) ran ≡ runFrom alone false budget (now (mem .entry)) (freshWith filled p) 0 0 ⌝ }
+    ensures { λ ran. ⌜ afterOf (now (mem .exit)) ran ≡ runFrom alone byItself budget (now (mem .entry)) (freshWith filled p) 0 0 ⌝ }
 {
     let costs = CYCLES;
     let mut cells = filled;

@@ -8,7 +8,7 @@ ghost use mathlib.Core.Path.{_≡_};
 ghost use Prim.Native.Nat.{_≤_};
 ghost use Rattle.links.specs.Depths.{cellsDepth};
 ghost use Rattle.run.specs.Answers.{saysChecked, saysExit, saysThrown};
-ghost use Rattle.run.specs.Verdicts.{pushable, readable, callable, catchable, throwable, exitable, sAfterPop, eAfterPop, eAfterDropOf};
+ghost use Rattle.run.specs.Verdicts.{pushable, readable, callable, catchable, throwable, exitable, returnable, sAfterPop, eAfterPop, eAfterDropOf};
 
 // >R
 pub(crate) fn can_push(p: usize, r: usize) -> Checked
@@ -96,6 +96,19 @@ pub(crate) fn can_exit(s: usize) -> Exit
         return Exit::Program;
     }
     Exit::Frame
+}
+
+// RTI leaves the top level of a routine in progress.
+pub(crate) fn can_return(block: u32, s: usize) -> Checked
+    ensures { λ c. ⌜ saysChecked c ≡ returnable block s ⌝ }
+{
+    if block == 0 {
+        return Checked::Refused(16);
+    }
+    if s == 0 {
+        return Checked::Refused(16);
+    }
+    Checked::Fine
 }
 
 // S after R>, R being lowered already: the top level goes if R is not greater than its copy.

@@ -1,4 +1,5 @@
 // Whether a state is well formed.
+use machine::Lines;
 use machine::Machine;
 use machine::Tasks;
 ghost use mathlib.Core.Path.{_≡_};
@@ -9,8 +10,25 @@ ghost use lib.Dec.{leb};
 ghost use lib.ListN as list;
 ghost use Rattle.plain.specs.Choice.{both};
 ghost use Rattle.machine.specs.Limits.{mostSum};
+ghost use Rattle.machine.specs.Lines.{linesFormed};
 ghost use Rattle.machine.specs.State.{wellFormed, Whole};
 ghost use Rattle.machine.specs.Tasks.{taskOf, tasksIn, canKeep, taskGood, allGood, AllWhole, tasksAcceptable};
+
+// Mask and waiting requests are of 16 bits, nothing waits on line 0, and the block is 0 or 1.
+fn lines_formed(lines: Lines) -> bool
+    ensures { λ b. ⌜ b ≡ linesFormed lines ⌝ }
+{
+    if 65536 <= lines.mask {
+        return false;
+    }
+    if 65536 <= lines.waiting {
+        return false;
+    }
+    if lines.waiting % 2 == 0 {
+        return lines.block <= 1;
+    }
+    false
+}
 
 pub(crate) fn well_formed(machine: Machine) -> bool
     ensures { λ b. ⌜ b ≡ wellFormed machine ⌝ }
@@ -21,8 +39,12 @@ pub(crate) fn well_formed(machine: Machine) -> bool
     if 1 < machine.flag {
         return false;
     }
-    let links = machine.links;
-    links::well_formed(links)
+    let lines = machine.lines;
+    if lines_formed(lines) {
+        let links = machine.links;
+        return links::well_formed(links);
+    }
+    false
 }
 
 // Ready, or an answer with which a task can leave.
@@ -32,8 +54,8 @@ fn can_keep(number: usize) -> bool
     if number <= 1 {
         return true;
     }
-    if number == 17 {
-        return true;
+    if 16 <= number {
+        return number <= 17;
     }
     if number < 3 {
         return false;

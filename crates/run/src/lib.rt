@@ -14,6 +14,7 @@ mod memory;
 mod parts;
 mod price;
 mod round;
+mod served;
 mod sums;
 mod tally;
 mod taskrows;
@@ -127,7 +128,7 @@ enum Thrown {
 }
 
 // P, R, S, E, the program counter and the flag; what is left of the budget and the cycles so far; and, once the run is over,
-// its answer with what it did not spend.
+// its answer with what it did not spend, and whether it goes on, since a line might enter.
 struct Registers {
     p: usize,
     r: usize,
@@ -139,6 +140,7 @@ struct Registers {
     cycles: Cycles,
     answer: u32,
     unspent: Steps,
+    again: bool,
 }
 
 // What a machine keeps between two turns beside its arrays: P, R, S, E, the program counter and the flag.

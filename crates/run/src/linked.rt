@@ -1,10 +1,11 @@
 // The subroutine and the exception levels as the loop has them: a row of numbers for each level, its cells and its address; the last
-// THROW and what the memory lost in a row behind them; and the copies of R, S and P beside. No array of structs can be lent (docs/DECISIONS.md), and each
+// THROW, what the memory lost and the interrupt lines in a row behind them; and the copies of R, S and P beside. No array of structs can be lent (docs/DECISIONS.md), and each
 // further array costs a turn four to six instructions.
 use links::Frame;
 use links::Level;
 use links::Links;
 use machine::LastThrow;
+use machine::Lines;
 ghost use mathlib.Core.List.{List};
 ghost use mathlib.Core.Path.{_≡_};
 ghost use Prim.Native.Nat.{ℕ, _+_, _*_, _%_, _^_, _<_};
@@ -14,9 +15,12 @@ ghost use Rattle.links.specs.Actions.{calledFrame};
 ghost use Rattle.links.specs.Depths.{framesCount, levelsCount, localsCount, levelCells, subroutinesDepth, exceptionsDepth};
 ghost use Rattle.links.specs.Linked.{noFrame, noLevel, copyOfR, copyOfS, copyOfP};
 ghost use Rattle.machine.specs.View.{bytesOfCells, overwritten};
+ghost use Rattle.machine.specs.Lines.{released};
 ghost use Rattle.run.specs.Levels.{framesIn, levelsIn, noteIn, seenIn, Laid, Hold, Keep};
+ghost use Rattle.run.specs.Calm.{heldIn};
+ghost use Rattle.run.specs.Notes.{withThrown, withLost, withLines, heeding};
 
-// The row of the last THROW and of what the memory lost stands behind those of the subroutine levels and of the exception levels.
+// The row of the last THROW, of what the memory lost and of the interrupt lines stands behind those of the subroutine levels and of the exception levels.
 const NOTE: usize = Links::FRAMES + Links::LEVELS;
 
 pub(crate) const ROWS: usize = NOTE + 1;
@@ -63,7 +67,7 @@ pub(crate) fn throw_address(rows: &[[u32; ROW]; ROWS], e: usize) -> u32
 }
 
 pub(crate) fn noted(rows: &[[u32; ROW]; ROWS]) -> LastThrow
-    ensures { λ t. ⌜ t ≡ noteIn (now (rows .entry)) .thrown ⌝ }
+    ensures { λ t. ⌜ t ≡ noteIn (now (rows .entry)) .aside .thrown ⌝ }
 {
     LastThrow {
         address: rows[NOTE][0],
@@ -73,7 +77,7 @@ pub(crate) fn noted(rows: &[[u32; ROW]; ROWS]) -> LastThrow
 
 // In the registers it would cost a step one or two instructions, and a turn fifteen (docs/SPEED.md).
 pub(crate) fn note(rows: &mut [[u32; ROW]; ROWS], address: u32, code: u32)
-    ensures { λ _. ⌜ ((copies : List ℕ) → Laid (now (rows .entry)) copies → Hold (now (rows .exit)) copies (framesIn (now (rows .entry)) copies) (levelsIn (now (rows .entry)) copies) (record { thrown = record { address = address; code = code }; lost = noteIn (now (rows .entry)) .lost })) ⌝ }
+    ensures { λ _. ⌜ ((copies : List ℕ) → Laid (now (rows .entry)) copies → Hold (now (rows .exit)) copies (framesIn (now (rows .entry)) copies) (levelsIn (now (rows .entry)) copies) (withThrown (record { address = address; code = code }) (noteIn (now (rows .entry))))) ⌝ }
 {
     rows[NOTE][0] = address;
     rows[NOTE][1] = code;
@@ -88,9 +92,57 @@ pub(crate) fn lost(rows: &[[u32; ROW]; ROWS]) -> u32
 
 // It lost so much more. Here too a register would cost every step (docs/SPEED.md).
 pub(crate) fn lose(rows: &mut [[u32; ROW]; ROWS], more: u32)
-    ensures { λ _. ⌜ ((copies : List ℕ) → Laid (now (rows .entry)) copies → Hold (now (rows .exit)) copies (framesIn (now (rows .entry)) copies) (levelsIn (now (rows .entry)) copies) (record { thrown = noteIn (now (rows .entry)) .thrown; lost = (noteIn (now (rows .entry)) .lost + more) % 2 ^ 32 })) ⌝ }
+    ensures { λ _. ⌜ ((copies : List ℕ) → Laid (now (rows .entry)) copies → Hold (now (rows .exit)) copies (framesIn (now (rows .entry)) copies) (levelsIn (now (rows .entry)) copies) (withLost ((noteIn (now (rows .entry)) .lost + more) % 2 ^ 32) (noteIn (now (rows .entry))))) ⌝ }
 {
     rows[NOTE][2] = std::num::wrapping_add_u32(rows[NOTE][2], more);
+}
+
+// The interrupt lines.
+pub(crate) fn lines(rows: &[[u32; ROW]; ROWS]) -> Lines
+    ensures { λ l. ⌜ l ≡ noteIn (now (rows .entry)) .aside .lines ⌝ }
+{
+    Lines {
+        mask: rows[NOTE][3],
+        waiting: rows[NOTE][4],
+        block: rows[NOTE][5],
+    }
+}
+
+pub(crate) fn set_lines(rows: &mut [[u32; ROW]; ROWS], lines: Lines)
+    ensures { λ _. ⌜ ((copies : List ℕ) → Laid (now (rows .entry)) copies → Hold (now (rows .exit)) copies (framesIn (now (rows .entry)) copies) (levelsIn (now (rows .entry)) copies) (withLines lines (noteIn (now (rows .entry))))) ⌝ }
+{
+    rows[NOTE][3] = lines.mask;
+    rows[NOTE][4] = lines.waiting;
+    rows[NOTE][5] = lines.block;
+}
+
+pub(crate) fn block(rows: &[[u32; ROW]; ROWS]) -> u32
+    ensures { λ b. ⌜ b ≡ noteIn (now (rows .entry)) .aside .lines .block ⌝ }
+{
+    rows[NOTE][5]
+}
+
+pub(crate) fn release(rows: &mut [[u32; ROW]; ROWS])
+    ensures { λ _. ⌜ ((copies : List ℕ) → Laid (now (rows .entry)) copies → Hold (now (rows .exit)) copies (framesIn (now (rows .entry)) copies) (levelsIn (now (rows .entry)) copies) (withLines (released (noteIn (now (rows .entry)) .aside .lines)) (noteIn (now (rows .entry))))) ⌝ }
+{
+    rows[NOTE][5] = 0;
+}
+
+// Whether a line might enter in this run: it is noted once, since the loop asks often.
+pub(crate) fn heed(rows: &mut [[u32; ROW]; ROWS])
+    ensures { λ _. ⌜ ((copies : List ℕ) → Laid (now (rows .entry)) copies → Hold (now (rows .exit)) copies (framesIn (now (rows .entry)) copies) (levelsIn (now (rows .entry)) copies) (heeding (noteIn (now (rows .entry))))) ⌝ }
+{
+    rows[NOTE][6] = 1;
+}
+
+// A line might enter, since no routine is in progress.
+pub(crate) fn held(rows: &[[u32; ROW]; ROWS]) -> bool
+    ensures { λ b. ⌜ b ≡ heldIn (noteIn (now (rows .entry)) .heeds) (noteIn (now (rows .entry)) .aside .lines) ⌝ }
+{
+    if rows[NOTE][6] == 0 {
+        return false;
+    }
+    rows[NOTE][5] == 0
 }
 
 // A cell is four bytes in view.

@@ -1,4 +1,4 @@
-// A machine's levels and its last THROW taken apart into the rows that the loop is lent, and a machine put together again.
+// A machine's levels, its last THROW and its interrupt lines taken apart into the rows that the loop is lent, and a machine put together again.
 use crate::Pointers;
 use crate::Registers;
 use crate::linked;
@@ -6,6 +6,7 @@ use links::Frame;
 use links::Level;
 use links::Links;
 use machine::LastThrow;
+use machine::Lines;
 use machine::Machine;
 ghost use mathlib.Core.List.{_++_};
 ghost use mathlib.Core.Path.{_≡_};
@@ -16,6 +17,7 @@ ghost use Rattle.links.specs.Depths.{framesCount, levelsCount};
 ghost use Rattle.links.specs.Fits.{CellFits};
 ghost use Rattle.links.specs.Linked.{noFrame, noLevel};
 ghost use Rattle.run.specs.Levels.{framesIn, levelsIn, noteIn, inRows, pointersOf, pointersIn, Laid, Hold};
+ghost use Rattle.run.specs.Notes.{withThrown, withLines};
 
 // So many numbers from the front of one list to the front of another.
 fn copy_front(from: &[u32], to: &mut [u32], count: usize)
@@ -128,17 +130,19 @@ fn levels_apart(
 pub(crate) fn apart(
     links: Links,
     thrown: LastThrow,
+    lines: Lines,
     rows: &mut [[u32; linked::ROW]; linked::ROWS],
     copies: &mut [usize; linked::COPIES],
 )
     requires { ⌜ Laid (now rows) (now copies) ⌝ }
-    ensures { λ _. ⌜ Hold (now (rows .exit)) (now (copies .exit)) (links .frames) (links .levels) (record { thrown = thrown; lost = noteIn (now (rows .entry)) .lost }) ⌝ }
+    ensures { λ _. ⌜ Hold (now (rows .exit)) (now (copies .exit)) (links .frames) (links .levels) (withLines lines (withThrown thrown (noteIn (now (rows .entry))))) ⌝ }
 {
     let frames = links.frames;
     let levels = links.levels;
     frames_apart(frames, rows, copies);
     levels_apart(levels, rows, copies);
     linked::note(rows, thrown.address, thrown.code);
+    linked::set_lines(rows, lines);
 }
 
 pub(crate) fn pointers(machine: Machine) -> Pointers
@@ -232,6 +236,7 @@ pub(crate) fn whole(
         e: at.e,
     };
     let thrown = linked::noted(rows);
+    let lines = linked::lines(rows);
     Machine {
         cells: *cells,
         p: at.p,
@@ -239,5 +244,6 @@ pub(crate) fn whole(
         counter: at.counter,
         flag: at.flag,
         thrown,
+        lines,
     }
 }

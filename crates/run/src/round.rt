@@ -28,7 +28,9 @@ ghost use Rattle.run.specs.Rounds.{Starts, Ends};
 
 // Each round is one step: the instruction is fetched and its checks are made, and what refuses it ends the run; then the lent
 // arrays and the registers are changed in place. The loop's own test is the one way out: a run that no answer ends has spent
-// its budget, answer 1. The registers come in and go out field by field: handed over whole, the compiler keeps them in memory.
+// its budget, answer 1. No line can enter at its start, and it ends behind the first instruction after which one might: to test at every
+// step costs every step (docs/SPEED.md). The registers come in and go out field by field: handed over whole, the compiler keeps them in
+// memory.
 pub(crate) fn rounds(
     mem: &mut [u8],
     cells: &mut [u32; Machine::CELLS],
@@ -42,7 +44,7 @@ pub(crate) fn rounds(
     turns: bool,
 ) -> Registers
     requires { ⌜ Starts reach (now mem) (inRows (now cells) (now returns) (now rows) (now copies) start) (now rows) (now copies) left (now costs) ⌝ }
-    ensures { λ g. ⌜ Ends reach turns (now (mem .entry)) (inRows (now (cells .entry)) (now (returns .entry)) (now (rows .entry)) (now (copies .entry)) start) left (noteIn (now (rows .entry)) .lost) (now (mem .exit)) (now (cells .exit)) (now (returns .exit)) (now (rows .exit)) (now (copies .exit)) g ⌝ }
+    ensures { λ g. ⌜ Ends reach turns (now (mem .entry)) (inRows (now (cells .entry)) (now (returns .entry)) (now (rows .entry)) (now (copies .entry)) start) left (noteIn (now (rows .entry))) (now (mem .exit)) (now (cells .exit)) (now (returns .exit)) (now (rows .exit)) (now (copies .exit)) g ⌝ }
 {
     let mut regs = Registers {
         p: start.p,
@@ -55,6 +57,7 @@ pub(crate) fn rounds(
         cycles: Cycles(0),
         answer: 1,
         unspent: Steps(0),
+        again: false,
     };
     while 0 < regs.left.0 {
         if fetch::foreign(mem, reach, regs.counter) {
@@ -127,6 +130,7 @@ pub(crate) fn rounds(
                 regs.e = checks::e_after_pop(lower, s, e, linked::copy_of_s(copies, e));
                 regs.counter = next;
                 regs = tally::counted(regs, price::price(costs, code));
+                regs = tally::parted(regs, linked::held(rows));
                 continue;
             }
             // CATCH ( address -- )
@@ -163,6 +167,7 @@ pub(crate) fn rounds(
                 regs.e = 0;
                 regs.counter = next;
                 regs = tally::counted(regs, price::price(costs, code));
+                regs = tally::parted(regs, linked::held(rows));
                 continue;
             }
             // THROW ( 0 -- ) or ( .. n -- .. n )
@@ -192,6 +197,7 @@ pub(crate) fn rounds(
                         regs.e = e - 1;
                         regs.counter = to;
                         regs = tally::counted(regs, price::price(costs, code));
+                        regs = tally::parted(regs, linked::held(rows));
                         continue;
                     }
                 }
@@ -364,6 +370,22 @@ pub(crate) fn rounds(
                 regs = tally::counted(regs, price::price(costs, code));
                 continue;
             }
+            // RTI is an EXIT that releases the block, and nothing but that
+            0x3C => {
+                let checked = checks::can_return(linked::block(rows), s);
+                let Checked::Fine = checked else {
+                    regs = leave::by_check(regs, checked);
+                    continue;
+                };
+                regs.s = s - 1;
+                regs.e = checks::e_after_drop(s - 1, e, linked::copy_of_s(copies, e));
+                regs.r = linked::copy_of_r(copies, s);
+                regs.counter = linked::return_address(rows, s);
+                linked::release(rows);
+                regs = tally::counted(regs, price::price(costs, code));
+                regs = tally::parted(regs, linked::held(rows));
+                continue;
+            }
             // EXIT
             0x3D => {
                 let exit = checks::can_exit(s);
@@ -376,6 +398,7 @@ pub(crate) fn rounds(
                 regs.r = linked::copy_of_r(copies, s);
                 regs.counter = linked::return_address(rows, s);
                 regs = tally::counted(regs, price::price(costs, code));
+                regs = tally::parted(regs, linked::held(rows));
                 continue;
             }
             // PAUSE is a NOP but that it may pass the turn; its one cycle stands outside the table
@@ -410,5 +433,6 @@ pub(crate) fn rounds(
         cycles: Cycles(regs.cycles.0),
         answer: regs.answer,
         unspent: Steps(regs.unspent.0),
+        again: regs.again,
     }
 }

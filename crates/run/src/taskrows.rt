@@ -8,7 +8,7 @@ ghost use mathlib.Core.Path.{_≡_};
 ghost use lib.ListN.{length};
 ghost use Rattle.machine.specs.Limits.{tasksCount};
 ghost use Rattle.machine.specs.Sum.{sumOf};
-ghost use Rattle.run.specs.Levels.{machinesIn, lossesIn, AllLaid, Seats};
+ghost use Rattle.run.specs.Levels.{machinesIn, lossesIn, AllLaid, HeedsSame, Seats};
 
 pub(crate) fn apart(
     machines: [Machine; Tasks::COUNT],
@@ -18,7 +18,7 @@ pub(crate) fn apart(
     copies: &mut [[usize; linked::COPIES]; Tasks::COUNT],
 ) -> [Pointers; Tasks::COUNT]
     requires { ⌜ ((length (now cells) ≡ tasksCount) × (length (now returns) ≡ tasksCount)) × AllLaid (now rows) (now copies) ⌝ }
-    ensures { λ saved. ⌜ Seats (now (cells .exit)) (now (returns .exit)) (now (rows .exit)) (now (copies .exit)) saved × ((machinesIn (now (cells .exit)) (now (returns .exit)) (now (rows .exit)) (now (copies .exit)) saved ≡ machines) × (sumOf (lossesIn (now (rows .exit))) ≡ sumOf (lossesIn (now (rows .entry))))) ⌝ }
+    ensures { λ saved. ⌜ Seats (now (cells .exit)) (now (returns .exit)) (now (rows .exit)) (now (copies .exit)) saved × ((machinesIn (now (cells .exit)) (now (returns .exit)) (now (rows .exit)) (now (copies .exit)) saved ≡ machines) × ((sumOf (lossesIn (now (rows .exit))) ≡ sumOf (lossesIn (now (rows .entry)))) × HeedsSame (now (rows .entry)) (now (rows .exit)))) ⌝ }
 {
     let none = Pointers {
         p: 0,
@@ -38,7 +38,8 @@ pub(crate) fn apart(
         cells[t] = cells_there;
         returns[t] = returns_there;
         let thrown = machine.thrown;
-        parts::apart(links, thrown, &mut rows[t], &mut copies[t]);
+        let lines = machine.lines;
+        parts::apart(links, thrown, lines, &mut rows[t], &mut copies[t]);
         saved[t] = parts::pointers(machine);
         t = t + 1;
     }

@@ -3,6 +3,7 @@ use crate::Clock;
 use crate::linked;
 use crate::parts;
 use crate::round;
+use crate::served;
 use crate::sums;
 use crate::taskrows;
 use crate::ticks;
@@ -22,7 +23,7 @@ ghost use Rattle.machine.specs.Sum.{sumAfter};
 ghost use Rattle.machine.specs.Reach.{task};
 ghost use Rattle.machine.specs.Tasks.{startOf, tasksAcceptable, tasksIn, tasksAfterOf, TurnsFrom, AllWhole};
 ghost use Rattle.run.specs.Promises.{Bounded};
-ghost use Rattle.run.specs.Clocks.{ranTasksOf};
+ghost use Rattle.run.specs.Clocks.{ranTasksOf, LinedTask};
 
 // Task t may touch the shared bytes and its own part.
 fn reach_of(t: usize) -> Reach
@@ -35,6 +36,16 @@ fn reach_of(t: usize) -> Reach
         own,
         end: own + Tasks::PART,
     }
+}
+
+// The task whose turns start with a test for lines: task 0 where one might enter, else none.
+fn lined_task(rows: &mut [[u32; linked::ROW]; linked::ROWS]) -> usize
+    ensures { λ t. ⌜ LinedTask (now (rows .entry)) (now (rows .exit)) t ⌝ }
+{
+    if served::attend(rows) {
+        return 0;
+    }
+    Tasks::COUNT
 }
 
 pub(crate) fn ended(answer: u32, steps: Steps, cycles: Cycles, tasks: Tasks) -> RanTasks
@@ -73,6 +84,9 @@ pub(crate) fn turns(
         cycles: Cycles(0),
         answer: 1,
     };
+    let lined = lined_task(&mut rows[0]);
+    let most = ticks::some(quantum);
+    let mut rests = [0u32; Tasks::COUNT];
     // asked for at a turn's end, so that the compiler does not ask every task beforehand
     let mut next = order::next_ready(&kept, clock.from);
     while 0 < clock.left.0 {
@@ -80,7 +94,12 @@ pub(crate) fn turns(
             clock = ticks::idle(clock);
             continue;
         };
-        let length = ticks::turn_length(quantum, clock.left.0);
+        let mut length = ticks::turn_length(most, clock.left.0);
+        if t == lined {
+            length = ticks::opened(rests[t], most, clock.left.0);
+            rests[t] = 0;
+            saved[t] = served::let_in(&mut returns[t], &mut rows[t], &mut copies[t], saved[t]);
+        }
         let after = round::rounds(
             mem,
             &mut cells[t],
@@ -94,9 +113,16 @@ pub(crate) fn turns(
             true,
         );
         saved[t] = parts::left_in(after);
-        ticks::keep(&mut kept, t, after.answer);
+        let from = ticks::closed(
+            &mut kept,
+            &mut rests,
+            t,
+            after.answer,
+            after.again,
+            after.unspent.0,
+        );
         let cycles = after.cycles;
-        clock = ticks::turned(clock, t, Steps(length - after.unspent.0), cycles);
+        clock = ticks::turned(clock, from, Steps(length - after.unspent.0), cycles);
         next = order::next_ready(&kept, clock.from);
     }
     *sum = sums::less(*sum, sums::lost_by_all(&rows));

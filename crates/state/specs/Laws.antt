@@ -6,6 +6,8 @@ pub mod Arrays
 pub mod Sound
 -- so it is with each part of a state
 pub mod Spelling
+-- one number of a record is changed
+pub mod Changed
 -- no second answer
 pub mod Only
 -- what the bytes can carry is what a machine that exists can hold

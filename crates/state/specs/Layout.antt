@@ -48,7 +48,7 @@ abbrev pub links : Part Links
 links = fields linksFields
 
 -- the parameter cells and P, the linked stacks, the program counter, the extend flag; with request P6 the address and the code of the
--- last THROW of non-zero
+-- last THROW of non-zero; with request P4 the mask, the waiting requests and the block of the interrupt lines
 abbrev pub stateFields : List (Field Machine)
 stateFields =
     array cellsDepth cell of (λ m. m .cells)
@@ -58,6 +58,9 @@ stateFields =
     ∷ cell of (λ m. m .flag)
     ∷ cell of (λ m. m .thrown .address)
     ∷ cell of (λ m. m .thrown .code)
+    ∷ cell of (λ m. m .lines .mask)
+    ∷ cell of (λ m. m .lines .waiting)
+    ∷ cell of (λ m. m .lines .block)
     ∷ []
 
 abbrev pub state : Part Machine

@@ -39,7 +39,7 @@ pub(crate) const LINKS_E: usize = LINKS_LEVELS + Links::LEVELS * LEVEL;
 
 pub(crate) const LINKS: usize = LINKS_E + POINTER;
 
-// The machine: parameter cells, P, linked stacks, counter, flag, address and code of the last THROW.
+// The machine: parameter cells, P, linked stacks, counter, flag, address and code of the last THROW, interrupt lines.
 pub(crate) const STATE_P: usize = Machine::CELLS * CELL;
 
 pub(crate) const STATE_LINKS: usize = STATE_P + POINTER;
@@ -52,7 +52,13 @@ pub(crate) const STATE_THROWN_ADDRESS: usize = STATE_FLAG + CELL;
 
 pub(crate) const STATE_THROWN_CODE: usize = STATE_THROWN_ADDRESS + CELL;
 
-pub const SIZE: usize = STATE_THROWN_CODE + CELL;
+pub const MASK: usize = STATE_THROWN_CODE + CELL;
+
+pub const WAITING: usize = MASK + CELL;
+
+pub(crate) const STATE_BLOCK: usize = WAITING + CELL;
+
+pub const SIZE: usize = STATE_BLOCK + CELL;
 
 // A task: its machine, the number that it keeps.
 pub(crate) const TASK_KEPT: usize = SIZE;

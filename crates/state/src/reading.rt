@@ -4,6 +4,7 @@ use links::Frame;
 use links::Level;
 use links::Links;
 use machine::LastThrow;
+use machine::Lines;
 use machine::Machine;
 use machine::Tasks;
 ghost use mathlib.Core.Path.{_≡_};
@@ -151,6 +152,14 @@ pub(crate) fn machine_at(state: &[u8], at: usize) -> Machine
     let address = cell_at(state, at + places::STATE_THROWN_ADDRESS);
     let code = cell_at(state, at + places::STATE_THROWN_CODE);
     let thrown = LastThrow { address, code };
+    let mask = cell_at(state, at + places::MASK);
+    let waiting = cell_at(state, at + places::WAITING);
+    let block = cell_at(state, at + places::STATE_BLOCK);
+    let lines = Lines {
+        mask,
+        waiting,
+        block,
+    };
     // the linked stacks last, as their frames are (docs/DECISIONS.md)
     let links = links_at(state, at + places::STATE_LINKS);
     Machine {
@@ -160,6 +169,7 @@ pub(crate) fn machine_at(state: &[u8], at: usize) -> Machine
         counter,
         flag,
         thrown,
+        lines,
     }
 }
 

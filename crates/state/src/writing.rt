@@ -107,6 +107,7 @@ pub(crate) fn put_machine(state: &mut [u8], at: usize, machine: Machine)
     let cells = machine.cells;
     let links = machine.links;
     let thrown = machine.thrown;
+    let lines = machine.lines;
     put_array(state, at, &cells);
     put_pointer(state, at + places::STATE_P, machine.p);
     put_links(state, at + places::STATE_LINKS, links);
@@ -114,6 +115,9 @@ pub(crate) fn put_machine(state: &mut [u8], at: usize, machine: Machine)
     put_cell(state, at + places::STATE_FLAG, machine.flag);
     put_cell(state, at + places::STATE_THROWN_ADDRESS, thrown.address);
     put_cell(state, at + places::STATE_THROWN_CODE, thrown.code);
+    put_cell(state, at + places::MASK, lines.mask);
+    put_cell(state, at + places::WAITING, lines.waiting);
+    put_cell(state, at + places::STATE_BLOCK, lines.block);
 }
 
 fn put_task(state: &mut [u8], at: usize, machine: Machine, kept: usize)

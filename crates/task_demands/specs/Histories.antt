@@ -1,9 +1,11 @@
 -- A run of tasks as one task sees it: its own instructions, and the turns of the others.
 use mathlib.Core.Path.{_≡_}
 use Prim.Native.Nat.{ℕ, _<_}
+use lib.Dec.{eqb}
 use Rattle.machine.specs.Reach.{task}
 use Rattle.machine.specs.Tasks.{taskAt, Between, TasksAfter, endedAt, nextReady, ofTask, nobodys, turnOf, afterTurn, TurnsFrom, spent, idle, turn}
 use Rattle.demands.specs.History.{World, world, History, here, then, others, joined, stepsIn, cyclesIn, Unbroken, Under}
+use Rattle.demands.specs.Course.{EntersAsItMay}
 
 -- task u's machine and the one memory
 abbrev pub worldAt : ℕ → Between → World
@@ -12,11 +14,13 @@ worldAt u b = world (b .memory) (taskAt (b .tasks) u .machine)
 abbrev pub worldAtEnd : ℕ → TasksAfter → World
 worldAtEnd u end = world (end .memory) (taskAt (end .tasks) u .machine)
 
--- task u's turn, to v: its instructions alone, under its reach, as many as the turn reports and in as many cycles
+-- task u's turn, to v: its instructions alone, under its reach, as many as the turn reports and in as many cycles; lines enter where it
+-- is task 0, and not else
 pub record TurnHistory (quantum u : ℕ) (b : Between) (v : World) : Type 0 where
   pub history : History (worldAt u b) v
   pub unbroken : Unbroken history
   pub under : Under (task u) history
+  pub lines : EntersAsItMay (eqb u 0) history
   pub steps : stepsIn history ≡ turnOf quantum b u .ran .steps .0
   pub cycles : cyclesIn history ≡ turnOf quantum b u .ran .cycles .0
 

@@ -7,7 +7,7 @@ use lib.Dec.{eqb}
 use lib.ListN.{set}
 use Rattle.plain.specs.Choice.{pick}
 use Rattle.machine.specs.Limits.{tasksCount}
-use Rattle.machine.specs.Run.{After}
+use Rattle.machine.specs.Run.{After, Manner, mannerOf}
 use Rattle.machine.specs.Tasks.{Task, taskOf, taskAt, isReady, TasksAfter}
 
 -- u is ready, and no other
@@ -15,6 +15,10 @@ pub record OnlyReady (u : ℕ) (tasks : List Task) : Type 0 where
   pub within : u < tasksCount
   pub is-ready : isReady (taskAt tasks u) ≡ true
   pub no-other : (t : ℕ) → t < tasksCount → (t ≡ u → ⊥) → isReady (taskAt tasks t) ≡ false
+
+-- a task by itself, not in turns: lines may enter task 0 only
+abbrev pub singly : ℕ → Manner
+singly u = mannerOf false (eqb u 0)
 
 -- what task u's single run leaves, told as a run of tasks: u has its machine and keeps its answer, the others are as they were, and
 -- the answer is 1 where the budget is spent

@@ -8,6 +8,8 @@ pub mod One
 pub mod Three
 -- each task notes its own throws
 pub mod Thrown
+-- lines enter task 0 only
+pub mod Lines
 -- the memory sum of four tasks
 pub mod Summed
 -- isolation: a turn leaves the other tasks alone, and takes no notice of them

@@ -15,7 +15,7 @@ use glidecotton_rust::speed_work::{all_work, Work, CONTENDERS};
 
 /// A ratio above this is marked, and one of instructions fails.
 const LIMIT: f64 = 1.15;
-/// The same for four tasks in turns.
+/// The same for four tasks in turns, and for a state in slices, of which most is that it is handed in and back.
 const LIMIT_IN_TURNS: f64 = 1.4;
 /// Rounds of timing, of which the quickest counts.
 const ROUNDS: usize = 15;
@@ -72,7 +72,7 @@ fn main() -> ExitCode {
     }
     let over = print_table("instructions", &all, count_instructions);
     print_ways();
-    let limits = format!("{LIMIT}, or over {LIMIT_IN_TURNS} in turns");
+    let limits = format!("{LIMIT}, or over {LIMIT_IN_TURNS} in turns and slices");
     if over > 0 {
         println!("{over} of the ratios of instructions are over {limits}");
         return ExitCode::FAILURE;
@@ -163,7 +163,7 @@ fn print_table(title: &str, all: &[Work], measure: fn(usize, &Work) -> [f64; 3])
 fn limit(work: &Work) -> f64 {
     match work {
         Work::Image(_) | Work::State(_) => LIMIT,
-        Work::Tasks(_) => LIMIT_IN_TURNS,
+        Work::Lines(_) | Work::Tasks(_) => LIMIT_IN_TURNS,
     }
 }
 

@@ -82,11 +82,13 @@ fn failed(why: &[String]) -> ExitCode {
 
 /// Measures and prints the table; gives what is wrong with it, or why there is none.
 fn measured(plan: &Plan) -> Result<Vec<String>, String> {
-    let [of_bench, of_read_image, of_run_state, of_run_tasks] = [
+    let [of_bench, of_read_image, of_run_state, of_run_tasks, of_raise_line, of_set_mask] = [
         frames_of("glidecotton", "glidecotton_bench")?,
         frames_of("reader", "glidecotton_read_image")?,
         frames_of("host", "glidecotton_run_state")?,
         frames_of("tasks", "glidecotton_run_tasks")?,
+        frames_of("lines", "glidecotton_raise_line")?,
+        frames_of("lines", "glidecotton_set_mask")?,
     ];
     let mut depths = Depths::default();
     let mut random = Random::new(plan.seed);
@@ -110,6 +112,13 @@ fn measured(plan: &Plan) -> Result<Vec<String>, String> {
             frames: of_run_tasks,
             promised: promise_of_tasks(),
         },
+        Row {
+            function: "glidecotton_raise_line",
+            depth: depths.raise_line,
+            frames: of_raise_line,
+            promised: promise(),
+        },
+        Row { function: "glidecotton_set_mask", depth: depths.set_mask, frames: of_set_mask, promised: promise() },
     ];
     print_table(&rows);
     println!(
@@ -124,7 +133,7 @@ fn measured(plan: &Plan) -> Result<Vec<String>, String> {
     Ok(rows.iter().flat_map(faults).chain(too_few).collect())
 }
 
-/// The frames of a library, which must have the function that it exports.
+/// The frames of a library, which must have this function that it exports.
 fn frames_of(library: &str, exported: &str) -> Result<Vec<Frame>, String> {
     let file = format!("{LIBRARIES}/lib{library}.su");
     let text = fs::read_to_string(&file).map_err(|error| format!("{file}: {error}"))?;
@@ -203,7 +212,8 @@ fn faults(row: &Row) -> Vec<String> {
     if depth.calls < LEAST_CALLS {
         faults.push(format!("{function} was called {} times, and {LEAST_CALLS} are the least", depth.calls));
     }
-    if depth.deepest == 0 {
+    // A function may keep all in registers.
+    if depth.deepest == 0 && sum(frames) > 0 {
         faults.push(format!("{took}: nothing was measured"));
     }
     if depth.deepest > *promised {

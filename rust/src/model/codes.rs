@@ -11,7 +11,7 @@ pub enum Op {
     Equal, NotEqual, Less, Greater, ULess, UGreater, ZeroEqual, ZeroNotEqual, ZeroLess, ZeroGreater,
     Zero, And, Or, Invert, Xor, ShiftLeft, ShiftRight, XByte, XWord, MultS, MultU, DivS, DivU,
     FetchL, StoreL, FetchW, StoreW, FetchB, StoreB, QDup, LoadB, LoadW, LoadL, Jmp, Jsl, Jsr,
-    Exit, Pause, Beq, Bra,
+    Rti, Exit, Pause, Beq, Bra,
 }
 
 /// What is known of an instruction by its code alone.
@@ -94,6 +94,7 @@ static FROM_00: [Row; 0x3A] = [
     row(Op::Jsl,          "JSL",         0, 0,    4,    2),
     row(Op::Jsr,          "JSR",         1, 0,    1,    2),
 ];
+static RTI: Row = row(Op::Rti, "RTI", 0, 0, 1, 2);
 static EXIT: Row = row(Op::Exit, "EXIT", 0, 0, 1, 2);
 static PAUSE: Row = row(Op::Pause, "PAUSE", 0, 0, 1, 1);
 static BEQ: Row = row(Op::Beq, "BEQ", 1, 0, 2, 2);
@@ -106,6 +107,7 @@ pub const PAUSE_CODE: u8 = 0x3E;
 pub fn row_of(code: u8) -> Option<&'static Row> {
     match code {
         0x00..=0x39 => Some(&FROM_00[usize::from(code)]),
+        0x3C => Some(&RTI),
         0x3D => Some(&EXIT),
         PAUSE_CODE => Some(&PAUSE),
         0x80..=0xBF => Some(&BEQ),
@@ -116,7 +118,7 @@ pub fn row_of(code: u8) -> Option<&'static Row> {
 
 /// One known code of every instruction: a branch is named by the lowest of its 64 codes.
 pub fn known_codes() -> impl Iterator<Item = u8> {
-    (0x00..=0x39).chain([0x3D, PAUSE_CODE, 0x80, 0xC0])
+    (0x00..=0x39).chain([0x3C, 0x3D, PAUSE_CODE, 0x80, 0xC0])
 }
 
 /// A fetched instruction.

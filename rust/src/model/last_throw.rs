@@ -4,16 +4,17 @@ use super::bench::bench;
 use super::codes::{known_codes, PAUSE_CODE};
 use super::image::load_image;
 use super::reach::Reach;
-use super::state::{Answer, Frame, LastThrow, Machine, MEMORY};
+use super::state::{Answer, Frame, LastThrow, Lines, Machine, MEMORY};
 use super::step::step;
 use crate::assembler::{assemble, image};
 
 const THROW: u8 = 0x0D;
 const BEFORE: LastThrow = LastThrow { address: 0x1234_5678, code: 0x9ABC_DEF0 };
 
-/// In a word that was called from a caught one, with some cells.
+/// In a word that was called from a caught one, with some cells, as a routine of a line.
 fn in_a_caught_word(cells: &[u32]) -> Machine {
-    let mut machine = Machine { r: 2, s: 2, e: 1, last_throw: BEFORE, ..Machine::fresh() };
+    let lines = Lines { block: 1, ..Lines::default() };
+    let mut machine = Machine { r: 2, s: 2, e: 1, last_throw: BEFORE, lines, ..Machine::fresh() };
     machine.frames[2] = Frame { copy_of_r: 1, ..Frame::default() };
     cells.iter().for_each(|&cell| machine.push(cell));
     assert!(machine.is_well_formed());

@@ -28,6 +28,12 @@ impl Machine {
         self.drop_frame();
     }
 
+    /// As EXIT; and the next line may enter.
+    pub fn return_from_line(&mut self) {
+        self.exit();
+        self.lines.block = 0;
+    }
+
     pub fn push_return(&mut self, value: u32) {
         self.returns[self.r] = value;
         self.r += 1;
@@ -63,7 +69,7 @@ impl Machine {
         self.e -= 1;
     }
 
-    /// The last throw stays: it is no pointer.
+    /// The last throw and the block stay: they are no pointers.
     pub fn reset_pointers(&mut self) {
         self.p = 0;
         self.r = 0;

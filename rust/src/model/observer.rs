@@ -1,30 +1,35 @@
 //! What may be watched of a run from outside.
 
 use super::reach::Reach;
-use super::state::{Answer, LastThrow, Machine, MEMORY};
+use super::state::{Answer, LastThrow, Lines, Machine, MEMORY};
 use super::turn::Turn;
 
-/// What an observer sees of the machine: the levels of the linked stacks, the flag, the last throw and the top cell, 0
-/// where there is none.
+/// What an observer sees of the machine: the levels of the linked stacks, the flag, the last throw, the lines and the top
+/// cell, 0 where there is none.
 #[derive(Clone, Copy)]
 pub struct Seen {
     pub s: usize,
     pub e: usize,
     pub flag: u32,
     pub last_throw: LastThrow,
+    pub lines: Lines,
     pub top: u32,
 }
 
 impl Seen {
     pub fn of(machine: &Machine) -> Seen {
         let top = machine.p.checked_sub(1).map_or(0, |at| machine.parameters[at]);
-        Seen { s: machine.s, e: machine.e, flag: machine.flag, last_throw: machine.last_throw, top }
+        let Machine { s, e, flag, last_throw, lines, .. } = *machine;
+        Seen { s, e, flag, last_throw, lines, top }
     }
 }
 
 /// Told of what happens; what it has no use for passes by.
 pub trait Observer {
-    /// A machine is about to try an instruction, and is told of as it stands before.
+    /// A machine comes to its next instruction, and is told of as it stands before any line enters.
+    fn coming(&mut self, _reach: Reach, _machine: &Machine, _memory: &[u8; MEMORY]) {}
+
+    /// A machine is about to try an instruction, and is told of as it stands before, a line having entered or not.
     fn trying(&mut self, _reach: Reach, _machine: &Machine, _memory: &[u8; MEMORY]) {}
 
     /// The instruction was completed.
@@ -42,6 +47,11 @@ impl Observer for () {}
 
 /// Both are told.
 impl<A: Observer, B: Observer> Observer for (&mut A, &mut B) {
+    fn coming(&mut self, reach: Reach, machine: &Machine, memory: &[u8; MEMORY]) {
+        self.0.coming(reach, machine, memory);
+        self.1.coming(reach, machine, memory);
+    }
+
     fn trying(&mut self, reach: Reach, machine: &Machine, memory: &[u8; MEMORY]) {
         self.0.trying(reach, machine, memory);
         self.1.trying(reach, machine, memory);

@@ -17,6 +17,11 @@ pub enum Reach {
 }
 
 impl Reach {
+    /// Lines enter one machine: that which is alone, or task 0.
+    pub fn has_lines(self) -> bool {
+        matches!(self, Reach::Alone | Reach::Task(0))
+    }
+
     /// Whether none of these bytes of memory is in another task's part.
     pub fn allows(self, mut bytes: Range<usize>) -> bool {
         match self {

@@ -1,13 +1,16 @@
-//! Why an instruction that was fetched may not be carried out: answers 5 to 13, and 17.
+//! Why an instruction that was fetched may not be carried out: answers 16, 5 to 13, and 17.
 
 use super::codes::{Instruction, Op};
 use super::place::{place, width};
 use super::reach::Reach;
 use super::state::{Answer, Machine, CATCHES, CELLS, FRAMES};
 
-/// The lowest answer that applies, or nothing.
+/// The lowest answer that applies, or nothing; 16 comes before 5.
 pub fn refusal(machine: &Machine, reach: Reach, instruction: &Instruction) -> Option<Answer> {
     let row = instruction.row;
+    if row.op == Op::Rti && (machine.lines.block == 0 || machine.s == 0) {
+        return Some(Answer::NoRoutine);
+    }
     if machine.p < row.takes {
         return Some(Answer::TooFewParameters);
     }

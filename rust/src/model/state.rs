@@ -42,6 +42,23 @@ pub struct LastThrow {
     pub code: u32,
 }
 
+/// The interrupt unit: lines 1 to 15, of which one routine at a time is served. Zeros in a fresh machine.
+#[derive(Clone, Copy, Debug, Default, PartialEq, Eq)]
+pub struct Lines {
+    /// Bit n set lets line n in; bit 0 is free and without effect.
+    pub mask: u32,
+    /// Bit n set: line n waits. Bit 0 is clear, since there is no line 0.
+    pub waiting: u32,
+    /// 1 while a routine is in progress, else 0.
+    pub block: u32,
+}
+
+impl Lines {
+    fn is_well_formed(self) -> bool {
+        self.mask < 1 << 16 && self.waiting < 1 << 16 && self.waiting.is_multiple_of(2) && self.block <= 1
+    }
+}
+
 /// Everything but the memory. Level 0 of both arrays has cells but makes no use of its other fields.
 #[derive(Clone, Debug, PartialEq, Eq)]
 pub struct Machine {
@@ -58,6 +75,7 @@ pub struct Machine {
     pub flag: u32,
     /// Any two numbers are well formed.
     pub last_throw: LastThrow,
+    pub lines: Lines,
 }
 
 impl Machine {
@@ -74,6 +92,7 @@ impl Machine {
             program_counter: 0,
             flag: 0,
             last_throw: LastThrow::default(),
+            lines: Lines::default(),
         }
     }
 
@@ -83,7 +102,8 @@ impl Machine {
         }
         let frames = &self.frames[1..=self.s];
         let catches = &self.catches[1..=self.e];
-        rises_to(frames.iter().map(|frame| frame.copy_of_r), self.r)
+        self.lines.is_well_formed()
+            && rises_to(frames.iter().map(|frame| frame.copy_of_r), self.r)
             && rises_to(catches.iter().map(|catch| catch.copy_of_s), self.s)
             && catches.iter().all(|catch| catch.copy_of_p < CELLS)
     }
@@ -125,6 +145,7 @@ pub enum Answer {
     BadAddress = 12,
     DivisorZero = 13,
     BadImage = 14,
+    NoRoutine = 16,
     InAnothersPart = 17,
 }
 

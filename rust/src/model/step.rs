@@ -131,6 +131,7 @@ fn carry_out(machine: &mut Machine, memory: &mut [u8; MEMORY], instruction: &Ins
             let target = machine.pop();
             machine.call(target, next);
         }
+        Op::Rti => machine.return_from_line(),
         Op::Exit => machine.exit(),
         Op::Beq => {
             if machine.pop() == 0 {

@@ -32,7 +32,7 @@ impl Task {
 
     /// A task that is not ready is judged like any other.
     fn is_good(&self) -> bool {
-        self.machine.is_well_formed() && matches!(self.kept, READY | 0 | 3..=13 | 17)
+        self.machine.is_well_formed() && matches!(self.kept, READY | 0 | 3..=13 | 16 | 17)
     }
 }
 

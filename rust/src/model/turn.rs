@@ -1,6 +1,7 @@
 //! The instructions of one machine, one after another.
 
 use super::codes::PAUSE_CODE;
+use super::entry::enter;
 use super::observer::{Observer, Seen};
 use super::reach::Reach;
 use super::state::{Answer, Machine, MEMORY};
@@ -15,7 +16,7 @@ pub struct Turn {
     pub cycles: u64,
 }
 
-/// Carries out instructions, at most so many. PAUSE ends the turn of one task among four; alone there is nobody to pass
+/// Carries out instructions, at most so many, before each of which a line may enter. PAUSE ends the turn of one task among four; alone there is nobody to pass
 /// it to.
 pub fn turn(
     machine: &mut Machine,
@@ -26,6 +27,10 @@ pub fn turn(
 ) -> Turn {
     let mut turn = Turn { left: None, steps: 0, cycles: 0 };
     while turn.steps < most {
+        observer.coming(reach, machine, memory);
+        if reach.has_lines() {
+            enter(machine);
+        }
         // A step may store over its own code, so the code is noted first; outside memory there is no step to tell of.
         let code = memory.get(machine.program_counter as usize).copied().unwrap_or(0);
         let before = Seen::of(machine);

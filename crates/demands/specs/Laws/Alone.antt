@@ -1,10 +1,11 @@
 -- Alone all of memory is in reach and no byte is another's; and past the end of memory there is no EXIT.
+use mathlib.Core.Logic.{_⊎_, inl, inr, ⊎-elim}
 use mathlib.Core.Path.{_≡_, refl, subst}
 use mathlib.Core.Bool.{Bool, true, false}
 use mathlib.Core.List.{List}
 use Prim.Native.Nat.{ℕ, zero, suc, _<_, _≤_}
 use native.Mathlib.Omega.{arith}
-use borrow.Author.Tests.{lt-ltb, leb-true, leb-false}
+use borrow.Author.Tests.{ne-eqb, lt-ltb, leb-true, leb-false}
 use lib.Dec.{leb, eqb}
 use lib.ListN.{length, List·getD-eq-default}
 use Rattle.plain.specs.Choice.{pick, both}
@@ -39,14 +40,15 @@ module _ (mem : List ℕ) (m : Machine) where
   abbrev codeHere : ℕ
   codeHere = byteAt mem (m .counter)
 
-  -- only EXIT wants a subroutine level to leave
+  -- only EXIT wants a subroutine level to leave, and RTI where there is one
   leaves : (act : Act) → Tells (instructionAt alone mem (m .counter)) m (entryAt codeHere .op) (rowAt alone mem m) act → among aFrame (needs act) ≡ true →
-      entryAt codeHere .op ≡ LINK EXIT
+      (entryAt codeHere .op ≡ LINK EXIT) ⊎ (m .links .s ≡ 0 → ⊥)
   leaves still t wanted = absurd (clash _ wanted refl)
   leaves (push x) t wanted = absurd (clash _ wanted refl)
   leaves (call address) t wanted = absurd (clash _ wanted refl)
   leaves (catch address p) t wanted = absurd (clash _ wanted refl)
-  leaves exit t wanted = t
+  leaves exit (inl is) wanted = inl is
+  leaves exit (inr (is, some)) wanted = inr some
   leaves pop t wanted = absurd (clash _ wanted refl)
   leaves throw t wanted = absurd (clash _ wanted refl)
   leaves (keep locals cells) t wanted = absurd (clash _ wanted refl)
@@ -72,8 +74,11 @@ module _ (mem : List ℕ) (m : Machine) where
     where
       go : (b : Bool) → wants (rowAt alone mem m) aFrame ≡ b → both b (eqb (m .links .s) 0) ≡ false
       go true wanted =
-          let is = marked codeHere EXIT (leaves (rowAt alone mem m .link) (fair-at alone mem m .tells) wanted) in
+          ⊎-elim
+          (λ exits.
+          let is = marked codeHere EXIT exits in
           let past : length mem ≤ m .counter = omega (arith, exit-outside is out) in
           let zero-there : codeHere ≡ 0 = List·getD-eq-default mem 0 past in
-          absurd (omega (arith, is, zero-there))
+          absurd (omega (arith, is, zero-there)))
+          (λ some. ne-eqb (m .links .s) 0 some) (leaves (rowAt alone mem m .link) (fair-at alone mem m .tells) wanted)
       go false wanted = refl

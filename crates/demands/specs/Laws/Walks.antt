@@ -8,7 +8,9 @@ use Rattle.plain.specs.Choice.{both, not}
 use Rattle.plain.specs.Laws.Choice.{both-parts}
 use Rattle.machine.specs.Reach.{alone}
 use Rattle.machine.specs.Step.{Stepped, refused, done, stepOf}
-use Rattle.machine.specs.Run.{runFrom, runOf, acceptable}
+use Rattle.machine.specs.Lines.{none, lowestDue, letIn}
+use Rattle.machine.specs.Run.{Manner, mannerOf, runFrom, runOf, acceptable}
+use Rattle.machine.specs.Laws.Quiet.{without-lines}
 use Rattle.demands.specs.History.{World, world, worldAfter, codeAt, pointerE, Moment, Resets, step, host, History, here, then, StaysAbove}
 use Rattle.demands.specs.Walk.{reached, ahead, walk}
 use Rattle.demands.specs.Theorems.Two.{starts, spends, goes-on}
@@ -37,18 +39,22 @@ unfoldable pub goes : ℕ → World → Bool
 goes zero w = true
 goes (suc n) w = both (isDone (stepAt w)) (goes n (ahead w))
 
--- so a run of n leaves what a walk of n steps does
-walk-rest : (n : ℕ) (w : World) (steps cycles : ℕ) → T (goes n w) → worldAfter (runFrom alone false n (w .memory) (w .machine) steps cycles) ≡ walk n w
-unfolding goes walk
-walk-rest zero w steps cycles t = ap worldAfter (spends alone false (w .memory) (w .machine) steps cycles)
+-- so a run of n that no line may enter leaves what a walk of n steps does
+abbrev unlined : Manner
+unlined = mannerOf false false
+
+walk-rest : (n : ℕ) (w : World) (steps cycles : ℕ) → T (goes n w) → worldAfter (runFrom alone unlined n (w .memory) (w .machine) steps cycles) ≡ walk n w
+unfolding goes walk letIn
+walk-rest zero w steps cycles t = ap worldAfter (spends alone unlined (w .memory) (w .machine) steps cycles)
 walk-rest (suc n) w steps cycles t =
     let p = both-parts (isDone (stepAt w)) (goes n (ahead w)) t in
-    ap worldAfter (goes-on alone false (w .memory) (w .machine) steps cycles n (ahead w .memory) (ahead w .machine) _ refl (ahead-step w (p .0))) ∙
+    ap worldAfter (goes-on alone unlined (w .memory) (w .machine) steps cycles n (ahead w .memory) (ahead w .machine) _ refl (ahead-step w (p .0))) ∙
     walk-rest n (ahead w) (suc steps) _ (p .1)
 
-pub run-walks : (n : ℕ) (w : World) → acceptable (w .memory) (w .machine) n ≡ true → T (goes n w) →
+pub run-walks : (n : ℕ) (w : World) → acceptable (w .memory) (w .machine) n ≡ true → lowestDue (w .machine .lines) ≡ none → T (goes n w) →
     worldAfter (runOf (w .memory) (w .machine) n) ≡ walk n w
-run-walks n w ok t = ap worldAfter (starts (w .memory) (w .machine) n ok) ∙ walk-rest n w 0 0 t
+run-walks n w ok quiet t =
+    ap worldAfter (starts (w .memory) (w .machine) n ok ∙ without-lines alone false n (w .memory) (w .machine) 0 0 quiet) ∙ walk-rest n w 0 0 t
 
 -- n steps with E above the limit from the first to the last
 unfoldable pub calm : ℕ → ℕ → World → Bool
@@ -82,7 +88,7 @@ walked limit (suc n) w t =
 pub host-between : (limit : ℕ) {w u v : World} (memory : List ℕ) (h : History w u) → StaysAbove limit h →
     Walked limit (world memory (u .machine)) v → Walked limit w v
 host-between limit memory here above rest =
-    record { history = then (host refl) (rest .history); above = (above, rest .above) }
+    record { history = then (host _ _ refl) (rest .history); above = (above, rest .above) }
 host-between limit memory (then m h) above rest =
     let more = host-between limit memory h (above .1) rest in
     record { history = then m (more .history); above = (above .0, more .above) }

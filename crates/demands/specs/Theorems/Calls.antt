@@ -16,10 +16,10 @@ use Rattle.state.specs.Lent.{Lent}
 use Rattle.state.specs.Laws.Spelling.{state-sound}
 use Rattle.state.specs.Laws.Fits.{machine-carried, machine-exists, machine-whole}
 use Rattle.host.specs.Handed.{Hands, wrong-length, run, handedBack}
-use Rattle.demands.specs.History.{World, worldAfter, host, History, here, then, joined, Resets}
+use Rattle.demands.specs.History.{World, worldAfter, asked, host, History, here, then, joined, Resets}
 use Rattle.demands.specs.Back.{Loses, through, Back}
 use Rattle.demands.specs.Sessions.{Follows, none, next}
-use Rattle.demands.specs.Calls.{Carries, Handled, Calls, over, host-call, runsOf, OneHistory}
+use Rattle.demands.specs.Calls.{Carries, Handled, Calls, over, host-call, host-asks, runsOf, OneHistory}
 use Rattle.demands.specs.Laws.Joined.{steps-joined, cycles-joined}
 use Rattle.demands.specs.Theorems.Sessions.{run-history, three-by-runs}
 
@@ -59,34 +59,63 @@ handled-again state memory later budget sum again another result other handed ba
     let left = runSummed memory m budget sum .after .ran .machine in
     handled (handed .state) later again another other back left (handled state memory budget sum result handed m carries long first .bytes-carry) also second
 
--- Any number of calls is one history, from the machine that the first bytes carry to the machine that the last ones carry: run after
--- run, each with the very machine that the one before it left. It carries out as many instructions as the calls report, in as many
--- cycles.
-pub one-history : {state end : List ℕ} (calls : Calls state end) (w : World) → Carries state (w .machine) → OneHistory calls w
-one-history over w carries = record { history = here; follows = none; bytes-carry = carries; steps = refl; cycles = refl }
-one-history (host-call memory budget sum result (wrong-length other) rest) w carries =
-    let later = one-history rest w carries in
-    record { history = later .history; follows = later .follows; bytes-carry = later .bytes-carry; steps = later .steps; cycles = later .cycles }
-one-history (host-call {state = state} memory budget sum result (run m all long fits is kept) rest) w carries =
-    let same : m ≡ w .machine = one-machine state m (w .machine) (record { fit = fits; spelled = is }) carries in
-    let a = runSummed memory (w .machine) budget sum .after in
+-- by what the host wrote for mask and requests since the last run
+history-from : {state end : List ℕ} (calls : Calls state end) (w : World) (mask waiting : ℕ) → Carries state (asked mask waiting (w .machine)) → OneHistory calls w
+history-from over w mask waiting carries =
+    record { history = here; follows = none; mask = mask; waiting = waiting; bytes-carry = carries; steps = refl; cycles = refl }
+history-from (host-call memory budget sum result (wrong-length other) rest) w mask waiting carries =
+    let later = history-from rest w mask waiting carries in
+    record {
+      history = later .history;
+      follows = later .follows;
+      mask = later .mask;
+      waiting = later .waiting;
+      bytes-carry = later .bytes-carry;
+      steps = later .steps;
+      cycles = later .cycles;
+    }
+history-from (host-call {state = state} memory budget sum result (run m all long fits is kept) rest) w mask waiting carries =
+    let same : m ≡ asked mask waiting (w .machine) =
+    one-machine state m (asked mask waiting (w .machine)) (record { fit = fits; spelled = is }) carries in
+    let begins : Machine = asked (m .lines .mask) (m .lines .waiting) (w .machine) in
+    let as-begun : begins ≡ m = ap (λ (x : Machine). asked (x .lines .mask) (x .lines .waiting) (w .machine)) same ∙ sym same in
+    let a = runSummed memory begins budget sum .after in
     let told = runSummed memory m budget sum .after in
-    let now = run-history memory (w .machine) budget sum in
-    let carries-on = subst (λ (x : Machine). Carries (layout.state .bytes (told .ran .machine)) (runSummed memory x budget sum .after .ran .machine)) same
-    (record { fit = kept; spelled = refl }) in
-    let later = one-history rest (worldAfter a) carries-on in
-    let as-told : a ≡ told = ap (λ (x : Machine). runSummed memory x budget sum .after) (sym same) in
+    let as-told : a ≡ told = ap (λ (x : Machine). runSummed memory x budget sum .after) as-begun in
+    let now = run-history memory begins budget sum in
+    let carries-on = subst (λ (x : After). Carries (layout.state .bytes (told .ran .machine)) (x .ran .machine)) (sym as-told) (record { fit = kept; spelled = refl }) in
+    let later = history-from rest (worldAfter a) (a .ran .machine .lines .mask) (a .ran .machine .lines .waiting) carries-on in
     let same-steps : a .ran .steps .0 ≡ told .ran .steps .0 = ap (λ (x : After). x .ran .steps .0) as-told in
     let same-cycles : a .ran .cycles .0 ≡ told .ran .cycles .0 = ap (λ (x : After). x .ran .cycles .0) as-told in
     record {
-      history = then (host refl) (joined (now .history) (later .history));
+      history = then (host (m .lines .mask) (m .lines .waiting) refl) (joined (now .history) (later .history));
       follows = next now (later .follows);
+      mask = later .mask;
+      waiting = later .waiting;
       bytes-carry = later .bytes-carry;
       steps = omega (arith, steps-joined (now .history) (later .history), now .steps, later .steps, same-steps);
       cycles = omega (arith, cycles-joined (now .history) (later .history), now .cycles, later .cycles, same-cycles);
     }
+history-from (host-asks {state = state} {asking = asking} m mask waiting before after rest) w old-mask old-waiting carries =
+    let same = one-machine state m (asked old-mask old-waiting (w .machine)) before carries in
+    let later = history-from rest w mask waiting (subst (λ (x : Machine). Carries asking (asked mask waiting x)) same after) in
+    record {
+      history = later .history;
+      follows = later .follows;
+      mask = later .mask;
+      waiting = later .waiting;
+      bytes-carry = later .bytes-carry;
+      steps = later .steps;
+      cycles = later .cycles;
+    }
 
--- Demand 3 over any number of calls, with any memory from the host between them: where their history loses what a CATCH pushed, in
+-- Any number of calls is one history, from the machine that the first bytes carry to the machine that the last ones carry: run after
+-- run, each with the very machine that the one before it left, but for what the host wrote for mask and requests. It carries out as
+-- many instructions as the calls report, in as many cycles.
+pub one-history : {state end : List ℕ} (calls : Calls state end) (w : World) → Carries state (w .machine) → OneHistory calls w
+one-history calls w carries = history-from calls w (w .machine .lines .mask) (w .machine .lines .waiting) carries
+
+-- Demand 3 over any number of calls, with any memory, mask and requests from the host between them: where their history loses what a CATCH pushed, in
 -- the same call or in a later one, that was a RESETSP, or the machine is back.
 pub three-by-calls : {state end : List ℕ} (calls : Calls state end) {a o w v z b : World} → Carries state (a .machine)
     → (l : Loses a o w v z) (after : History z b) → Follows a (runsOf calls) (through l after) → Resets (l .last) ⊎ Back o v z

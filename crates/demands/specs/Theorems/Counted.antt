@@ -8,14 +8,14 @@ use Rattle.word.specs.Truth.{bitOf}
 use Rattle.machine.specs.Reach.{alone}
 use Rattle.machine.specs.State.{wellFormed, machineWith}
 use Rattle.machine.specs.Fits.{Exist}
-use Rattle.machine.specs.Laws.Kept.{formed, formed-true}
+use Rattle.machine.specs.Laws.Kept.{formed, steady, formed-true}
 use Rattle.machine.specs.Laws.Started.{start-exists}
 use Rattle.demands.specs.History.{codeAt}
 use Rattle.demands.specs.Walk.{ahead, walk}
 use Rattle.demands.specs.Double.{LowThenHigh, onTop, deeper}
 use Rattle.demands.specs.Counted.{code, cells, start, atLow, atHigh}
 use Rattle.demands.specs.Laws.Every.{every, all-below}
-use Rattle.demands.specs.Laws.Histories.{history-kept, history-carries}
+use Rattle.demands.specs.Laws.Histories.{still-formed, history-carries}
 use Rattle.demands.specs.Laws.Walks.{stepAt, isDone, ahead-step}
 use Rattle.demands.specs.Laws.Resting.{resting, rested}
 use Rattle.demands.specs.Theorems.Double.{double-sum, double-difference}
@@ -49,8 +49,8 @@ meets low high h =
     let starts = start-exists (code low high) cells (all-below (2 ^ 8) (code low high) bytes) (all-below (2 ^ 32) cells tt) (lit≤ tt) in
     let is-formed = formed (machineWith cells) start-formed in
     record {
-      exist = history-carries (before .history) (before .leaves-bytes) is-formed starts;
-      accepted = formed-true (atLow low high .machine) (history-kept (before .history) (starts .whole) is-formed .1);
+      exist = history-carries (before .history) (before .leaves-bytes) (steady (machineWith cells) is-formed) starts;
+      accepted = formed-true (atLow low high .machine) (still-formed (before .history) (before .unbroken) (starts .whole) is-formed);
       codes =
           record {
             low-code = eqb→eq (codeAt (atLow low high)) low low-code;

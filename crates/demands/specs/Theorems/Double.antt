@@ -12,7 +12,7 @@ use Rattle.machine.specs.Codes.{entryAt, table}
 use Rattle.machine.specs.State.{wellFormed}
 use Rattle.machine.specs.Fits.{Exist}
 use Rattle.machine.specs.Rows.{top, second}
-use Rattle.machine.specs.Laws.Kept.{formed}
+use Rattle.machine.specs.Laws.Kept.{formed, steady}
 use Rattle.demands.specs.History.{World}
 use Rattle.demands.specs.Double.{LowThenHigh, onTop, deeper}
 use Rattle.demands.specs.Laws.Double.{left-in-two}
@@ -22,7 +22,7 @@ pub double-sum : {a b c d : World} → Exist (a .memory) (a .machine) → wellFo
     (onTop b d ≡ (deeper a c + onTop a c) % 2 ^ 64) × (d .machine .flag ≡ bitOf (leb (2 ^ 64) (deeper a c + onTop a c)))
 unfolding entryAt table twoCellsOf
 double-sum {a} {b} {c} {d} exist accepted l =
-    left-in-two exist (formed (a .machine) accepted) l Plus AddExtended refl refl _ _
+    left-in-two exist (steady (a .machine) (formed (a .machine) accepted)) l Plus AddExtended refl refl _ _
     (double-sum-means (second (a .machine)) (second (c .machine)) (top (a .machine)) (top (c .machine)) (a .machine .flag))
 
 -- The difference modulo 2 ^ 64 is left, and the flag is 1 exactly where more is taken off than is there.
@@ -30,5 +30,5 @@ pub double-difference : {a b c d : World} → Exist (a .memory) (a .machine) →
     (onTop b d ≡ (deeper a c + 2 ^ 64 - onTop a c) % 2 ^ 64) × (d .machine .flag ≡ bitOf (ltb (deeper a c) (onTop a c)))
 unfolding entryAt table twoCellsOf
 double-difference {a} {b} {c} {d} exist accepted l =
-    left-in-two exist (formed (a .machine) accepted) l Minus SubtractExtended refl refl _ _
+    left-in-two exist (steady (a .machine) (formed (a .machine) accepted)) l Minus SubtractExtended refl refl _ _
     (double-difference-means (second (a .machine)) (second (c .machine)) (top (a .machine)) (top (c .machine)) (a .machine .flag))

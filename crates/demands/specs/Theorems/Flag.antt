@@ -9,7 +9,7 @@ use Rattle.machine.specs.Laws.Passed.{step-done}
 use Rattle.machine.specs.Laws.Told.{fair}
 use Rattle.machine.specs.declared.Machine.{Machine}
 use Rattle.machine.specs.declared.Reach.{Reach}
-use Rattle.demands.specs.History.{World, codeAt, step, host, others, History, here, then}
+use Rattle.demands.specs.History.{World, codeAt, step, enters, host, others, History, here, then}
 use Rattle.demands.specs.Flag.{movers, moves, NoneMoves, allMove}
 use Rattle.demands.specs.Laws.Flag.{listed}
 
@@ -26,7 +26,8 @@ flag-kept reach w v k e other =
 pub flag-stays : {w v : World} (h : History w v) → NoneMoves h → v .machine .flag ≡ w .machine .flag
 flag-stays here none = refl
 flag-stays {w} (then {u = u} (step reach k e) rest) none = flag-stays rest (none .1) ∙ flag-kept reach w u k e (none .0)
-flag-stays (then (host e) rest) none = flag-stays rest none ∙ ap (λ (m : Machine). m .flag) e
+flag-stays (then (enters n e kept is) rest) none = flag-stays rest none ∙ ap (λ (m : Machine). m .flag) is
+flag-stays (then (host mask waiting e) rest) none = flag-stays rest none ∙ ap (λ (m : Machine). m .flag) e
 flag-stays (then (others e) rest) none = flag-stays rest none ∙ ap (λ (m : Machine). m .flag) e
 
 -- And each of them moves it in some state.

@@ -7,8 +7,9 @@ use Rattle.machine.specs.Limits.{mostBudget}
 use Rattle.machine.specs.State.{Whole}
 use Rattle.machine.specs.Run.{After, runOf, acceptable}
 use Rattle.machine.specs.declared.Machine.{Machine}
+use Rattle.machine.specs.Laws.Kept.{steady}
 use Rattle.machine.specs.Laws.Accepted.{taken, accept}
-use Rattle.demands.specs.Laws.Histories.{history-kept, same-length}
+use Rattle.demands.specs.Laws.Histories.{history-kept, still-formed, same-length}
 use Rattle.demands.specs.Theorems.One.{one}
 use Rattle.demands.specs.Theorems.Two.{declines, counts}
 
@@ -17,7 +18,7 @@ pub run-kept : (mem : List ℕ) (m : Machine) (budget : ℕ) → Whole m → Who
 run-kept mem m budget whole = go (acceptable mem m budget) refl
   where
     go : (b : Bool) → acceptable mem m budget ≡ b → Whole (runOf mem m budget .ran .machine)
-    go true e = history-kept (counts mem m budget e .history) whole (taken mem m budget e .formed) .0
+    go true e = history-kept (counts mem m budget e .history) whole (steady m (taken mem m budget e .formed)) .0
     go false e = subst (λ (a : After). Whole (a .ran .machine)) (sym (declines mem m budget e)) whole
 
 -- and the next run takes it, whatever its budget within the limit
@@ -30,5 +31,5 @@ taken-again mem m budget again whole other within =
     (record {
       long = same-length (b .1 .history) (b .1 .unbroken) ∙ t .long;
       budget-within = within;
-      formed = history-kept (b .1 .history) whole (t .formed) .1;
+      formed = still-formed (b .1 .history) (b .1 .unbroken) whole (t .formed);
     })

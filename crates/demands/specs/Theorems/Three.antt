@@ -1,10 +1,11 @@
 -- Demand 3: whatever a caught word does, when its CATCH's exception level is gone, unless by RESETSP, the machine is back where it was
--- before the CATCH. However deep the calls and however many the inner CATCHes, over any number of runs, with any memory from the host
--- and any turns of other tasks between them.
+-- before the CATCH. However deep the calls and however many the inner CATCHes, over any number of runs, with any entries of interrupt
+-- lines, any memory, mask and requests from the host and any turns of other tasks between them.
 use mathlib.Core.Logic.{_⊎_, ⊎-elim}
 use Prim.Native.Nat.{ℕ, _<_}
 use native.Mathlib.Omega.{arith}
-use Rattle.machine.specs.Laws.Kept.{formed}
+use Rattle.machine.specs.State.{Whole}
+use Rattle.machine.specs.Laws.Kept.{formed, Steady, steady}
 use Rattle.demands.specs.History.{World, pointerE, Resets, History, here, then, StaysAbove, Accepted}
 use Rattle.demands.specs.Back.{Loses, Back}
 use Rattle.demands.specs.Laws.Histories.{history-kept}
@@ -25,13 +26,17 @@ stood-through o {w} s (then {u = x} moment rest) above =
     (λ (back : Back o w x). absurd (omega (arith, back .restored .same-e, up))))
     (moment-next o w x s moment)) rest (above .1)
 
--- From any state a that a run accepts, through any history, to any CATCH at o that is carried out and leads to w; from there through
--- any history with E above the old E; then the moment that brings E down was a RESETSP, or the machine is back: by EXIT, THROW of
--- non-zero or R>. This rules out a throw that keeps P too high, a level dropped too early or too late, an inner word that could
--- reach below the CATCH, and a loss of the level by anything else.
-pub three : {a o w v z : World} → Accepted (a .machine) → (l : Loses a o w v z) → Resets (l .last) ⊎ Back o v z
-three {a} {o} {w} {v} {z} start l =
-    let h = history-kept (l .before) (start .whole) (formed (a .machine) (start .formed)) in
+-- mask and waiting requests may be what they like
+pub three-from : {a o w v z : World} → Whole (a .machine) → Steady (a .machine) → (l : Loses a o w v z) → Resets (l .last) ⊎ Back o v z
+three-from {a} {o} {w} {v} {z} whole well l =
+    let h = history-kept (l .before) whole well in
     let caught = catch-stood (l .reach) o w (l .cost) (h .0) (h .1) (l .catches) (l .carried) in
     ⊎-elim (λ (stood : Stood o z). absurd (omega (arith, stood .stands .e-above, l .down))) (λ ends. ends)
     (moment-next o v z (stood-through o caught (l .between) (l .above)) (l .last))
+
+-- From any state a that a run accepts, through any history, to any CATCH at o that is carried out and leads to w; from there through
+-- any history with E above the old E; then the moment that brings E down was a RESETSP, or the machine is back: by EXIT, RTI, THROW of
+-- non-zero or R>. This rules out a throw that keeps P too high, a level dropped too early or too late, an inner word that could
+-- reach below the CATCH, and a loss of the level by anything else.
+pub three : {a o w v z : World} → Accepted (a .machine) → (l : Loses a o w v z) → Resets (l .last) ⊎ Back o v z
+three {a} start l = three-from (start .whole) (steady (a .machine) (formed (a .machine) (start .formed))) l

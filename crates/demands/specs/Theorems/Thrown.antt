@@ -12,7 +12,7 @@ use Rattle.machine.specs.Laws.Readings.{throw-leaves}
 use Rattle.machine.specs.declared.LastThrow.{LastThrow}
 use Rattle.machine.specs.declared.Machine.{Machine}
 use Rattle.machine.specs.declared.Reach.{Reach}
-use Rattle.demands.specs.History.{World, codeAt, step, host, others, History, here, then}
+use Rattle.demands.specs.History.{World, codeAt, step, enters, host, others, History, here, then}
 use Rattle.demands.specs.Thrown.{throwsAt, throwAt, lastThrow, NoneThrows}
 
 -- A step notes its own address and the number thrown where it is a THROW of non-zero, and else keeps what was noted.
@@ -35,14 +35,16 @@ step-noted reach w v k e = go (eqb (codeAt w) 0x0D) (eqb (top (w .machine)) 0) r
 pub last-noted : {w v : World} (h : History w v) → v .machine .thrown ≡ lastThrow h (w .machine .thrown)
 last-noted here = refl
 last-noted {w} (then {u = u} (step reach k e) rest) = last-noted rest ∙ ap (lastThrow rest) (step-noted reach w u k e)
-last-noted (then (host e) rest) = last-noted rest ∙ ap (λ (m : Machine). lastThrow rest (m .thrown)) e
+last-noted (then (enters n e kept is) rest) = last-noted rest ∙ ap (λ (m : Machine). lastThrow rest (m .thrown)) is
+last-noted (then (host mask waiting e) rest) = last-noted rest ∙ ap (λ (m : Machine). lastThrow rest (m .thrown)) e
 last-noted (then (others e) rest) = last-noted rest ∙ ap (λ (m : Machine). lastThrow rest (m .thrown)) e
 
 none-last : {w v : World} (h : History w v) → NoneThrows h → (before : LastThrow) → lastThrow h before ≡ before
 none-last here none before = refl
 none-last {w} (then (step reach k e) rest) none before =
     ap (λ (b : Bool). lastThrow rest (pick b (throwAt w) before)) (none .0) ∙ none-last rest (none .1) before
-none-last (then (host e) rest) none before = none-last rest none before
+none-last (then (enters n e kept is) rest) none before = none-last rest none before
+none-last (then (host mask waiting e) rest) none before = none-last rest none before
 none-last (then (others e) rest) none before = none-last rest none before
 
 -- A history without one leaves what was noted, whatever it calls, catches, exits, resets or is refused.

@@ -16,7 +16,7 @@ use Rattle.numbers.specs.Bytes.{bytesOf}
 use Rattle.numbers.specs.Laws.Bytes.{Bytes, number-below}
 use Rattle.numbers.specs.Laws.Rewriting.{spelled-bytes, list-bytes, bytes-at}
 use Rattle.links.specs.Depths.{localsCount, levelCells}
-use Rattle.links.specs.Actions.{Act, throw}
+use Rattle.links.specs.Actions.{Act, call, throw}
 use Rattle.links.specs.Linked.{frameAt, levelAt}
 use Rattle.links.specs.Fits.{CellFits, LinksFit}
 use Rattle.links.specs.Laws.Carries.{ActFits, frame-in-view, level-in-view, act-fits}
@@ -24,23 +24,26 @@ use Rattle.word.specs.Dispatch.{twoCellsOf}
 use Rattle.word.specs.Laws.Fits.{CellsFit, one-fits, two-fit}
 use Rattle.word.specs.declared.Outcome.{Outcome}
 use Rattle.word.specs.declared.Outcome.the-variants.{Single, Double, DivisorZero}
-use Rattle.machine.specs.Codes.{Shuffle, NOP, DROP, DUP, SWAP, OVER, NIP, ROT, PSP-AT, ZERO, DUP-NONZERO, PAUSE, Jump, JMP, BEQ, BRA, Link, >R, R-AT, R>, CATCH, RESETSP, THROW, JSL, JSR, EXIT, Op, SHUFFLE, JUMP, LINK, ONE, TWO, FETCH, STORE, LITERAL, Operand, none, number, offset, table, entryAt}
+use Rattle.machine.specs.Codes.{Shuffle, NOP, DROP, DUP, SWAP, OVER, NIP, ROT, PSP-AT, ZERO, DUP-NONZERO, PAUSE, Jump, JMP, BEQ, BRA, Link, >R, R-AT, R>, CATCH, RESETSP, THROW, JSL, JSR, EXIT, RTI, Op, SHUFFLE, JUMP, LINK, ONE, TWO, FETCH, STORE, LITERAL, Operand, none, number, offset, table, entryAt}
 use Rattle.machine.specs.Reach.{alone}
 use Rattle.machine.specs.State.{Whole}
 use Rattle.machine.specs.Memory.{size, placeOf}
 use Rattle.machine.specs.View.{bytesOfCells, overwritten}
 use Rattle.machine.specs.Fetch.{Instruction, operandAt, instructionAt}
-use Rattle.machine.specs.Rows.{Row, top, second, topReturn, localsInView, cellsInView, inView, cellsRow, throwRow, rowOf, linkRow, shuffled, target, twoRow, fetchRow, storeRow}
+use Rattle.machine.specs.Rows.{Row, aRoutine, releasing, noReturn, lacking, exitRow, top, second, topReturn, localsInView, cellsInView, inView, cellsRow, throwRow, rowOf, linkRow, shuffled, target, twoRow, fetchRow, storeRow}
 use Rattle.machine.specs.Step.{done, noted, stepOf, rowAt}
-use Rattle.machine.specs.Run.{After, ended, runFrom, acceptable, runOf}
-use Rattle.machine.specs.Fits.{ThrowFits, Fits, AllBytes, Exist}
+use Rattle.machine.specs.Run.{After, Manner, byItself, ended, runFrom, acceptable, runOf}
+use Rattle.machine.specs.Lines.{enteredBy, letIn, released}
+use Rattle.machine.specs.Fits.{ThrowFits, LinesFit, Fits, AllBytes, Exist}
 use Rattle.machine.specs.Laws.Tables.{Everywhere, at-code}
 use Rattle.machine.specs.Laws.Along.{along}
 use Rattle.machine.specs.Laws.Passed.{step-done}
 use Rattle.machine.specs.Laws.CellBytes.{overwritten-long, overwritten-fits}
-use Rattle.machine.specs.Laws.Kept.{Formed, allowed-at, step-kept}
+use Rattle.machine.specs.Laws.Kept.{Formed, Steady, steady, allowed-at, step-steady, let-in-steady}
+use Rattle.machine.specs.Laws.Lines.{Enters, let-in}
 use Rattle.machine.specs.Laws.Noted.{throws-or-keeps}
 use Rattle.machine.specs.Laws.Accepted.{taken}
+use Rattle.machine.specs.declared.Lines.{Lines}
 use Rattle.machine.specs.declared.Machine.{Machine}
 use Rattle.machine.specs.declared.Reach.{Reach}
 use Rattle.machine.specs.declared.Width.{Width}
@@ -72,7 +75,7 @@ width-below Word n h = omega arith
 width-below Long n h = omega arith
 
 module _ (i : Instruction) (mem : List ℕ) (m : Machine) (operand-fits : CellFits (i .operand)) (next-fits : CellFits (i .next))
-    (bytes : AllBytes mem) (whole : Whole m) (formed : Formed m) (h : Fits m) where
+    (bytes : AllBytes mem) (whole : Whole m) (steady : Steady m) (h : Fits m) where
   cell-at : (n : ℕ) → CellFits (getD (m .cells) n 0)
   cell-at n = cell-fits m h n
 
@@ -92,7 +95,7 @@ module _ (i : Instruction) (mem : List ℕ) (m : Machine) (operand-fits : CellFi
   shuffled-fit OVER = (cell-at _, (cell-at _, (cell-at _, tt)))
   shuffled-fit NIP = (cell-at _, tt)
   shuffled-fit ROT = (cell-at _, (cell-at _, (cell-at _, tt)))
-  shuffled-fit PSP-AT = (omega (arith, formed .p-within), tt)
+  shuffled-fit PSP-AT = (omega (arith, steady .p-within), tt)
   shuffled-fit ZERO = (omega arith, tt)
   shuffled-fit DUP-NONZERO = picked-all (eqb (top m) 0) (top m ∷ []) (top m ∷ top m ∷ []) (cell-at _, tt) (cell-at _, (cell-at _, tt))
   shuffled-fit PAUSE = tt
@@ -110,10 +113,10 @@ module _ (i : Instruction) (mem : List ℕ) (m : Machine) (operand-fits : CellFi
 
   -- the addresses in the levels in view
   return-address : CellFits (frameAt (m .links) (m .links .s) .address)
-  return-address = frame-in-view (m .links) (whole .shaped) (formed .sound) (h .links-fit) .address-fits
+  return-address = frame-in-view (m .links) (whole .shaped) (steady .sound) (h .links-fit) .address-fits
 
   throw-address : CellFits (levelAt (m .links) (m .links .e) .address)
-  throw-address = level-in-view (m .links) (whole .shaped) (formed .sound) (h .links-fit) .address-fits
+  throw-address = level-in-view (m .links) (whole .shaped) (steady .sound) (h .links-fit) .address-fits
 
   throw-fits : (b : Bool) → RowFits (pick b (cellsRow i mem m []) (throwRow i mem m))
   throw-fits true = stays-fit [] tt
@@ -129,8 +132,12 @@ module _ (i : Instruction) (mem : List ℕ) (m : Machine) (operand-fits : CellFi
   link-row-fits THROW = throw-fits (eqb (top m) 0)
   link-row-fits JSL = record { puts-fit = tt; goes-fits = operand-fits; link-fits = next-fits; memory-fits = bytes }
   link-row-fits JSR = record { puts-fit = tt; goes-fits = cell-at _; link-fits = next-fits; memory-fits = bytes }
-  link-row-fits EXIT =
-      record { puts-fit = tt; goes-fits = search (return-address, return-fits); link-fits = tt; memory-fits = bytes }
+  link-row-fits EXIT = record { puts-fit = tt; goes-fits = return-address; link-fits = tt; memory-fits = bytes }
+  link-row-fits RTI = go (noReturn m)
+    where
+      go : (b : Bool) → RowFits (pick b (lacking i mem m aRoutine) (releasing (exitRow i mem m)))
+      go true = record { puts-fit = tt; goes-fits = next-fits; link-fits = tt; memory-fits = bytes }
+      go false = record { puts-fit = tt; goes-fits = return-address; link-fits = tt; memory-fits = bytes }
 
   two-row-fits : (o : Outcome) → CellsFit o → RowFits (twoRow i mem m o)
   two-row-fits (Single value flag) f = record { puts-fit = (f, tt); goes-fits = next-fits; link-fits = tt; memory-fits = bytes }
@@ -162,8 +169,8 @@ module _ (i : Instruction) (mem : List ℕ) (m : Machine) (operand-fits : CellFi
       let bytes-stored = bytesOf (size w) (second m) in
       let after = overwritten (inView m) a bytes-stored in
       let held : All CellFits after = overwritten-fits (inView m) a bytes-stored (spelled-bytes (size w) (second m)) in
-      let locals = frame-in-view (m .links) (whole .shaped) (formed .sound) (h .links-fit) .locals-long in
-      let cells = level-in-view (m .links) (whole .shaped) (formed .sound) (h .links-fit) .cells-long in
+      let locals = frame-in-view (m .links) (whole .shaped) (steady .sound) (h .links-fit) .locals-long in
+      let cells = level-in-view (m .links) (whole .shaped) (steady .sound) (h .links-fit) .cells-long in
       let long : length after ≡ localsCount + levelCells =
       overwritten-long (inView m) a bytes-stored ∙ (length-append (localsInView m) (cellsInView m) ∙ omega arith) in
       record {
@@ -210,22 +217,27 @@ operand-below (number n) mem a t bytes =
     lt-of-lt-of-le (number-below n mem (a + 1) bytes) (pow-le-pow-right some within)
 operand-below offset mem a t bytes = omega arith
 
+-- lines fit, released or not
+lines-still-fit : (b : Bool) (l : Lines) → LinesFit l → LinesFit (pick b (released l) l)
+lines-still-fit true l h = record { mask-fits = h .mask-fits; waiting-fits = h .waiting-fits; block-fits = omega arith }
+lines-still-fit false l h = h
+
 -- what a step leaves exists
-pub step-carries : (reach : Reach) (mem : List ℕ) (m : Machine) (mem′ : List ℕ) (m′ : Machine) (k : ℕ) → Formed m → Exist mem m →
+pub step-carries : (reach : Reach) (mem : List ℕ) (m : Machine) (mem′ : List ℕ) (m′ : Machine) (k : ℕ) → Steady m → Exist mem m →
     stepOf reach mem m ≡ done mem′ m′ k → Exist mem′ m′
 unfolding instructionAt
-step-carries reach mem m mem′ m′ k formed x e =
+step-carries reach mem m mem′ m′ k steady x e =
     let d = step-done reach mem m mem′ m′ k e in
-    let g = step-kept reach mem m mem′ m′ k (x .whole) formed e in
+    let g = step-steady reach mem m mem′ m′ k (x .whole) steady e in
     let h = x .fits in
     let i = instructionAt reach mem (m .counter) in
     let operand =
     operand-below (entryAt (i .code) .operand) mem (m .counter)
     (at-code (λ code e. smallOperand (e .operand)) operands-small (i .code)) (bytes-at mem (x .bytes)) in
     let next : CellFits (i .next) = omega arith in
-    let row = row-fits i mem m operand next (x .bytes) (x .whole) formed h (entryAt (i .code) .op) in
+    let row = row-fits i mem m operand next (x .bytes) (x .whole) steady h (entryAt (i .code) .op) in
     let links-fit =
-    act-fits (m .links) (x .whole .shaped) (formed .sound) (h .links-fit) (rowAt reach mem m .link) (row .link-fits) (allowed-at reach mem m mem′ m′ k formed d) in
+    act-fits (m .links) (x .whole .shaped) (steady .sound) (h .links-fit) (rowAt reach mem m .link) (row .link-fits) (allowed-at reach mem m mem′ m′ k steady d) in
     record {
       whole = g .whole;
       fits =
@@ -233,31 +245,64 @@ step-carries reach mem m mem′ m′ k formed x e =
             cells-fit =
                 subst (λ (y : Machine). All CellFits (y .cells)) (sym (d .machine))
                 (all-sets CellFits (m .cells) (h .cells-fit) (rowAt reach mem m .keeps) (rowAt reach mem m .puts) (row .puts-fit));
-            p-fits = omega (arith, g .formed .p-within);
+            p-fits = omega (arith, g .steady .p-within);
             links-fit = subst (λ (y : Machine). LinksFit (y .links)) (sym (d .machine)) links-fit;
             counter-fits = subst (λ (y : Machine). CellFits (y .counter)) (sym (d .machine)) (row .goes-fits);
-            flag-fits = omega (arith, g .formed .flag-within);
+            flag-fits = omega (arith, g .steady .flag-within);
             thrown-fits = subst (λ (y : Machine). ThrowFits (y .thrown)) (sym (d .machine)) (noted-fits m h (rowAt reach mem m .link));
+            lines-fit = subst (λ (y : Machine). LinesFit (y .lines)) (sym (d .machine)) (lines-still-fit (rowAt reach mem m .releases) (m .lines) (h .lines-fit));
           };
       bytes = subst AllBytes (sym (d .memory)) (row .memory-fits);
     }
+
+-- and so does a machine that a line has entered
+pub let-in-carries : (lined : Bool) (mem : List ℕ) (m : Machine) → Steady m → Exist mem m → Steady (letIn lined m) × Exist mem (letIn lined m)
+let-in-carries lined mem m steady x =
+    let fine = let-in-steady lined mem m (x .whole) steady in
+    (fine .steady, record { whole = fine .whole; fits = fit; bytes = x .bytes })
+  where
+    h : Fits m
+    h = x .fits
+
+    entered-fits : (n : ℕ) → Enters m n → Fits (enteredBy n m)
+    entered-fits n e =
+        record {
+          cells-fit = h .cells-fit;
+          p-fits = h .p-fits;
+          links-fit = act-fits (m .links) (x .whole .shaped) (steady .sound) (h .links-fit) (call (m .counter)) (h .counter-fits) (e .r-room, e .s-room);
+          counter-fits = omega (arith, e .within);
+          flag-fits = h .flag-fits;
+          thrown-fits = h .thrown-fits;
+          lines-fit =
+              record {
+                mask-fits = h .lines-fit .mask-fits;
+                waiting-fits = omega (arith, h .lines-fit .waiting-fits);
+                block-fits = omega arith;
+              };
+        }
+
+    fit : Fits (letIn lined m)
+    fit = let-in Fits lined m h entered-fits
 
 -- so does what a run leaves, whatever its answer
 abbrev ExistAfter : After → Type 0
 ExistAfter a = Exist (a .memory) (a .ran .machine)
 
--- well formed and existing, whatever the counts
+-- well formed but for mask and requests, and existing, whatever the counts
 abbrev Carried : List ℕ → Machine → ℕ → ℕ → Type 0
-Carried mem m n c = Formed m × Exist mem m
+Carried mem m n c = Steady m × Exist mem m
 
-pub rest-carries : (reach : Reach) (inTurns : Bool) (left : ℕ) (mem : List ℕ) (m : Machine) (n c : ℕ) → Formed m → Exist mem m →
-    ExistAfter (runFrom reach inTurns left mem m n c)
-rest-carries reach inTurns left mem m n c formed x = along reach inTurns Carried carried left mem m n c (formed, x) .1
+pub rest-carries : (reach : Reach) (manner : Manner) (left : ℕ) (mem : List ℕ) (m : Machine) (n c : ℕ) → Formed m → Exist mem m →
+    ExistAfter (runFrom reach manner left mem m n c)
+rest-carries reach manner left mem m n c formed x = along reach manner Carried carried entered left mem m n c (steady m formed, x) .1
   where
+    entered : (mem : List ℕ) (m : Machine) (n c : ℕ) → Carried mem m n c → Carried mem (letIn (manner .lined) m) n c
+    entered mem m n c now = let-in-carries (manner .lined) mem m (now .0) (now .1)
+
     carried : (mem : List ℕ) (m : Machine) (n c : ℕ) (mem′ : List ℕ) (m′ : Machine) (k : ℕ) → Carried mem m n c → stepOf reach mem m ≡ done mem′ m′ k →
         Carried mem′ m′ (suc n) (c + k)
     carried mem m n c mem′ m′ k now e =
-        (step-kept reach mem m mem′ m′ k (now .1 .whole) (now .0) e .formed, step-carries reach mem m mem′ m′ k (now .0) (now .1) e)
+        (step-steady reach mem m mem′ m′ k (now .1 .whole) (now .0) e .steady, step-carries reach mem m mem′ m′ k (now .0) (now .1) e)
 
 pub run-carries : (mem : List ℕ) (m : Machine) (budget : ℕ) → Exist mem m →
     Exist (runOf mem m budget .memory) (runOf mem m budget .ran .machine)
@@ -265,7 +310,7 @@ unfolding runOf
 run-carries mem m budget x = go (acceptable mem m budget) refl
   where
     go : (b : Bool) → acceptable mem m budget ≡ b →
-        ExistAfter (elim b as (λ y. After) [ true ↦ runFrom alone false budget mem m 0 0 | false ↦ ended 2 mem m 0 0 ])
+        ExistAfter (elim b as (λ y. After) [ true ↦ runFrom alone byItself budget mem m 0 0 | false ↦ ended 2 mem m 0 0 ])
     go true e =
-        rest-carries alone false budget mem m 0 0 (taken mem m budget e .formed) x
+        rest-carries alone byItself budget mem m 0 0 (taken mem m budget e .formed) x
     go false e = x

@@ -14,7 +14,7 @@ use Rattle.machine.specs.Codes.{Entry, unknown, entryBEQ, entryBRA, cycl
 use Rattle.machine.specs.Fetch.{Instruction, instructionAt}
 use Rattle.machine.specs.Rows.{top}
 use Rattle.machine.specs.Step.{done, stepOf, costOf, cyclesOfThrowOfZero}
-use Rattle.machine.specs.Run.{runFrom, CyclesBounded}
+use Rattle.machine.specs.Run.{Manner, runFrom, CyclesBounded}
 use Rattle.machine.specs.Laws.Along.{along}
 use Rattle.machine.specs.Laws.Passed.{step-done}
 use Rattle.machine.specs.Laws.Tables.{Everywhere, at-code, getD-within}
@@ -90,10 +90,10 @@ cost-bounded i m = go (both (eqb (i .code) 0x0D) (eqb (top m) 0))
     go true = (omega arith, omega arith)
     go false = cycles-bounded (i .code)
 
-pub run-bounded : (reach : Reach) (inTurns : Bool) (left : ℕ) (mem : List ℕ) (m : Machine) (n c : ℕ) → n ≤ c → c ≤ 42 * n →
-    CyclesBounded (runFrom reach inTurns left mem m n c)
-run-bounded reach inTurns left mem m n c lo hi =
-    let b = along reach inTurns (λ mem m n c. (n ≤ c) × (c ≤ 42 * n)) counted left mem m n c (lo, hi) in
+pub run-bounded : (reach : Reach) (manner : Manner) (left : ℕ) (mem : List ℕ) (m : Machine) (n c : ℕ) → n ≤ c → c ≤ 42 * n →
+    CyclesBounded (runFrom reach manner left mem m n c)
+run-bounded reach manner left mem m n c lo hi =
+    let b = along reach manner (λ mem m n c. (n ≤ c) × (c ≤ 42 * n)) counted (λ mem m n c now. now) left mem m n c (lo, hi) in
     record { least = b .0; most = b .1 }
   where
     counted : (mem : List ℕ) (m : Machine) (n c : ℕ) (mem′ : List ℕ) (m′ : Machine) (k : ℕ) → (n ≤ c) × (c ≤ 42 * n) → stepOf reach mem m ≡ done mem′ m′ k →

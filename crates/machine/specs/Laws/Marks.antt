@@ -6,7 +6,7 @@ use lib.Dec.{T, eqb, eqb→eq, lit≤}
 use Rattle.plain.specs.Choice.{pick, decided}
 use Rattle.word.specs.declared.TwoCells.{TwoCells}
 use Rattle.word.specs.declared.TwoCells.the-variants.{Plus, Minus, AddExtended, SubtractExtended, Equal, Unequal, Less, Greater, Below, Above, AndBits, OrBits, XorBits, MultiplySigned, MultiplyUnsigned, DivideSigned, DivideUnsigned}
-use Rattle.machine.specs.Codes.{DUP-NONZERO, Shuffle-discrete, Link, >R, R-AT, R>, CATCH, RESETSP, THROW, JSL, JSR, EXIT, Op, SHUFFLE, JUMP, LINK, ONE, TWO, FETCH, STORE, LITERAL, table, entryAt}
+use Rattle.machine.specs.Codes.{DUP-NONZERO, Shuffle-discrete, Link, >R, R-AT, R>, CATCH, RESETSP, THROW, JSL, JSR, EXIT, RTI, Op, SHUFFLE, JUMP, LINK, ONE, TWO, FETCH, STORE, LITERAL, table, entryAt}
 use Rattle.machine.specs.Laws.Tables.{Everywhere, at-code}
 
 -- where they stand
@@ -20,6 +20,7 @@ codeOf THROW = 0x0D
 codeOf JSL = 0x38
 codeOf JSR = 0x39
 codeOf EXIT = 0x3D
+codeOf RTI = 0x3C
 
 abbrev pub codeOfTwo : TwoCells → ℕ
 codeOfTwo Plus = 0x0E

@@ -13,10 +13,10 @@ use Rattle.word.specs.declared.Outcome.{Outcome}
 use Rattle.word.specs.declared.Outcome.the-variants.{Single, Double, DivisorZero}
 use Rattle.word.specs.declared.TwoCells.{TwoCells}
 use Rattle.word.specs.declared.TwoCells.the-variants.{Plus, Minus, AddExtended, SubtractExtended, Equal, Unequal, Less, Greater, Below, Above, AndBits, OrBits, XorBits, MultiplySigned, MultiplyUnsigned, DivideSigned, DivideUnsigned}
-use Rattle.machine.specs.Codes.{Shuffle, NOP, DROP, DUP, SWAP, OVER, NIP, ROT, PSP-AT, ZERO, DUP-NONZERO, PAUSE, Link, >R, R-AT, R>, CATCH, RESETSP, THROW, JSL, JSR, EXIT, Op, SHUFFLE, JUMP, LINK, ONE, TWO, FETCH, STORE, LITERAL, table, entryAt}
+use Rattle.machine.specs.Codes.{Shuffle, NOP, DROP, DUP, SWAP, OVER, NIP, ROT, PSP-AT, ZERO, DUP-NONZERO, PAUSE, Link, >R, R-AT, R>, CATCH, RESETSP, THROW, JSL, JSR, EXIT, RTI, Op, SHUFFLE, JUMP, LINK, ONE, TWO, FETCH, STORE, LITERAL, table, entryAt}
 use Rattle.machine.specs.Memory.{placeOf}
 use Rattle.machine.specs.Fetch.{Instruction}
-use Rattle.machine.specs.Rows.{Row, aPlace, aDivisor, top, second, cellsRow, throwRow, rowOf, linkRow, shuffled, twoRow, fetchRow, storeRow}
+use Rattle.machine.specs.Rows.{Row, aPlace, aDivisor, aRoutine, releasing, noReturn, lacking, exitRow, top, second, cellsRow, throwRow, rowOf, linkRow, shuffled, twoRow, fetchRow, storeRow}
 use Rattle.machine.specs.Checks.{lacks}
 use Rattle.machine.specs.Laws.Tables.{Everywhere, at-code}
 use Rattle.machine.specs.Laws.Marks.{codeOfTwo}
@@ -49,6 +49,7 @@ putsOfLink THROW = 1
 putsOfLink JSL = 0
 putsOfLink JSR = 0
 putsOfLink EXIT = 0
+putsOfLink RTI = 0
 
 -- products and quotients put two
 abbrev putsOfTwo : TwoCells → ℕ
@@ -116,6 +117,11 @@ module _ (i : Instruction) (mem : List ℕ) (m : Machine) where
   link-puts JSL = exactly _ _ refl refl
   link-puts JSR = exactly _ _ refl refl
   link-puts EXIT = exactly _ _ refl refl
+  link-puts RTI = go (noReturn m)
+    where
+      go : (b : Bool) → Puts (LINK RTI) (pick b (lacking i mem m aRoutine) (releasing (exitRow i mem m)))
+      go true = exactly _ _ refl refl
+      go false = exactly _ _ refl refl
 
   -- an outcome has so many cells, if it has any
   abbrev Has : ℕ → Outcome → Type 0

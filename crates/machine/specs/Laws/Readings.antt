@@ -1,19 +1,22 @@
--- Readings that document 01 rules out: where EXIT and THROW go, and what THROW leaves, in any state.
-use mathlib.Core.Path.{_≡_, ap, _∙_}
-use mathlib.Core.Bool.{Bool}
+-- Readings that document 01 and request P4 rule out: where EXIT, RTI and THROW go, and what RTI and THROW leave, in any state.
+use mathlib.Core.Path.{_≡_, refl, sym, ap, _∙_, subst}
+use mathlib.Core.Bool.{Bool, true, false}
 use mathlib.Core.List.{List, []}
 use Prim.Native.Nat.{ℕ, _+_}
 use native.Mathlib.Omega.{arith}
 use borrow.Author.Tests.{ne-eqb}
+use lib.Dec.{T}
 use Rattle.plain.specs.Choice.{pick}
 use Rattle.numbers.specs.Bytes.{byteAt}
 use Rattle.links.specs.Linked.{frameAt, copyOfP}
-use Rattle.machine.specs.Codes.{THROW, LINK, entryAt, table}
+use Rattle.machine.specs.Codes.{THROW, RTI, LINK, entryAt, table}
 use Rattle.machine.specs.Fetch.{Instruction, instructionAt}
-use Rattle.machine.specs.Rows.{Row, rowOf, top, cellsRow, throwRow}
-use Rattle.machine.specs.Step.{done, stepOf, put, rowAt}
+use Rattle.machine.specs.Rows.{Row, aRoutine, releasing, noReturn, rowOf, top, cellsRow, lacking, exitRow, throwRow}
+use Rattle.machine.specs.Checks.{lacks}
+use Rattle.machine.specs.Lines.{released}
+use Rattle.machine.specs.Step.{done, stepOf, put, rowAt, testsAt}
 use Rattle.machine.specs.AfterThrow.{AfterThrow}
-use Rattle.machine.specs.Laws.Passed.{step-done}
+use Rattle.machine.specs.Laws.Passed.{step-done, passed-at}
 use Rattle.machine.specs.declared.Machine.{Machine}
 use Rattle.machine.specs.declared.Reach.{Reach}
 
@@ -34,6 +37,28 @@ pub exit-goes : (reach : Reach) (mem : List ℕ) (m : Machine) (mem′ : List �
 unfolding entryAt table rowOf
 exit-goes reach mem m mem′ m′ k e is =
     ap (λ (x : Machine). x .counter) (left-by reach mem m mem′ m′ k _ (row-of reach mem m 0x3D is) e)
+
+-- RTI that is carried out goes there too, and releases the block
+rti-row : (i : Instruction) (mem : List ℕ) (m : Machine) → lacks (rowOf i mem m (LINK RTI)) aRoutine ≡ false →
+    rowOf i mem m (LINK RTI) ≡ releasing (exitRow i mem m)
+unfolding rowOf
+rti-row i mem m found = go (noReturn m) found
+  where
+    go : (b : Bool) → lacks (pick b (lacking i mem m aRoutine) (releasing (exitRow i mem m))) aRoutine ≡ false →
+        pick b (lacking i mem m aRoutine) (releasing (exitRow i mem m)) ≡ releasing (exitRow i mem m)
+    go true e = absurd (subst T e tt)
+    go false e = refl
+
+pub rti-leaves : (reach : Reach) (mem : List ℕ) (m : Machine) (mem′ : List ℕ) (m′ : Machine) (k : ℕ) → stepOf reach mem m ≡ done mem′ m′ k →
+    byteAt mem (m .counter) ≡ 0x3C → (m′ .counter ≡ frameAt (m .links) (m .links .s) .address) × (m′ .lines ≡ released (m .lines))
+unfolding entryAt table
+rti-leaves reach mem m mem′ m′ k e is =
+    let i = instructionAt reach mem (m .counter) in
+    let here = row-of reach mem m 0x3C is in
+    let found : lacks (rowAt reach mem m) aRoutine ≡ false = passed-at 16 (testsAt reach mem m) (step-done reach mem m mem′ m′ k e .passed) in
+    let row = rti-row i mem m (ap (λ (r : Row). lacks r aRoutine) (sym here) ∙ found) in
+    let l : m′ ≡ put (releasing (exitRow i mem m)) m = left-by reach mem m mem′ m′ k _ (here ∙ row) e in
+    (ap (λ (x : Machine). x .counter) l, ap (λ (x : Machine). x .lines) l)
 
 throw-row : (i : Instruction) (mem : List ℕ) (m : Machine) → (top m ≡ 0 → ⊥) → rowOf i mem m (LINK THROW) ≡ throwRow i mem m
 unfolding rowOf

@@ -35,6 +35,7 @@ start-exists code cells bytes fit within =
             counter-fits = lit< tt;
             flag-fits = lit< tt;
             thrown-fits = record { address-fits = lit< tt; code-fits = lit< tt };
+            lines-fit = record { mask-fits = lit< tt; waiting-fits = lit< tt; block-fits = lit< tt };
           };
       bytes = all-padded _ memoryLength code bytes (lit< tt);
     }

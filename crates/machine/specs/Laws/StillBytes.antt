@@ -12,14 +12,14 @@ use Rattle.numbers.specs.Laws.Rewriting.{spelled-bytes}
 use Rattle.word.specs.Dispatch.{twoCellsOf}
 use Rattle.word.specs.declared.Outcome.{Outcome}
 use Rattle.word.specs.declared.Outcome.the-variants.{Single, Double, DivisorZero}
-use Rattle.machine.specs.Codes.{Link, >R, R-AT, R>, CATCH, RESETSP, THROW, JSL, JSR, EXIT, Op, SHUFFLE, JUMP, LINK, ONE, TWO, FETCH, STORE, LITERAL, entryAt}
+use Rattle.machine.specs.Codes.{Link, >R, R-AT, R>, CATCH, RESETSP, THROW, JSL, JSR, EXIT, RTI, Op, SHUFFLE, JUMP, LINK, ONE, TWO, FETCH, STORE, LITERAL, entryAt}
 use Rattle.machine.specs.Reach.{alone, task}
 use Rattle.machine.specs.Memory.{size, placeOf}
 use Rattle.machine.specs.Fetch.{Instruction, instructionAt}
-use Rattle.machine.specs.Rows.{top, second, cellsRow, throwRow, linkRow, twoRow, fetchRow, storeRow, rowOf}
+use Rattle.machine.specs.Rows.{aRoutine, releasing, noReturn, top, second, lacking, exitRow, cellsRow, throwRow, linkRow, twoRow, fetchRow, storeRow, rowOf}
 use Rattle.machine.specs.Step.{done, stepOf}
-use Rattle.machine.specs.Run.{After, ended, runFrom, acceptable, runOf}
-use Rattle.machine.specs.Tasks.{Task, taskAt, Between, TasksAfter, turnLength, TurnsFrom, spent, idle, turn, RunsTasks, declined, ran}
+use Rattle.machine.specs.Run.{After, Manner, byItself, ended, runFrom, acceptable, runOf}
+use Rattle.machine.specs.Tasks.{Task, taskAt, Between, TasksAfter, turnLength, asTask, TurnsFrom, spent, idle, turn, RunsTasks, declined, ran}
 use Rattle.machine.specs.Fits.{AllBytes}
 use Rattle.machine.specs.Laws.Along.{along}
 use Rattle.machine.specs.Laws.Passed.{step-done}
@@ -50,6 +50,11 @@ module _ (i : Instruction) (mem : List ℕ) (m : Machine) (bytes : AllBytes mem)
   link-bytes JSL = bytes
   link-bytes JSR = bytes
   link-bytes EXIT = bytes
+  link-bytes RTI = go (noReturn m)
+    where
+      go : (b : Bool) → AllBytes (pick b (lacking i mem m aRoutine) (releasing (exitRow i mem m)) .memory)
+      go true = bytes
+      go false = bytes
 
   two-bytes : (o : Outcome) → AllBytes (twoRow i mem m o .memory)
   two-bytes (Single value flag) = bytes
@@ -88,27 +93,27 @@ step-still reach mem m mem′ m′ k bytes e =
       same-length = ap length is ∙ fair-at reach mem m .same-length;
     }
 
-rest-still : (reach : Reach) (inTurns : Bool) (left : ℕ) (mem : List ℕ) (m : Machine) → AllBytes mem → Still mem (runFrom reach inTurns left mem m 0 0 .memory)
-rest-still reach inTurns left mem m bytes =
-    along reach inTurns (λ now m n c. Still mem now)
+rest-still : (reach : Reach) (manner : Manner) (left : ℕ) (mem : List ℕ) (m : Machine) → AllBytes mem → Still mem (runFrom reach manner left mem m 0 0 .memory)
+rest-still reach manner left mem m bytes =
+    along reach manner (λ now m n c. Still mem now)
     (λ now m n c mem′ m′ k so-far e.
     let next = step-still reach now m mem′ m′ k (so-far .bytes) e in
     record { bytes = next .bytes; same-length = next .same-length ∙ so-far .same-length })
-    left mem m 0 0 (record { bytes = bytes; same-length = refl })
+    (λ now m n c so-far. so-far) left mem m 0 0 (record { bytes = bytes; same-length = refl })
 
 pub run-still : (mem : List ℕ) (m : Machine) (budget : ℕ) → AllBytes mem → Still mem (runOf mem m budget .memory)
 unfolding runOf
 run-still mem m budget bytes = go (acceptable mem m budget)
   where
-    go : (b : Bool) → Still mem (elim b as (λ x. After) [ true ↦ runFrom alone false budget mem m 0 0 | false ↦ ended 2 mem m 0 0 ] .memory)
-    go true = rest-still alone false budget mem m bytes
+    go : (b : Bool) → Still mem (elim b as (λ x. After) [ true ↦ runFrom alone byItself budget mem m 0 0 | false ↦ ended 2 mem m 0 0 ] .memory)
+    go true = rest-still alone byItself budget mem m bytes
     go false = record { bytes = bytes; same-length = refl }
 
 turns-still : {quantum : ℕ} {b : Between} {end : TasksAfter} → AllBytes (b .memory) → TurnsFrom quantum b end → Still (b .memory) (end .memory)
 turns-still bytes (spent e) = record { bytes = bytes; same-length = refl }
 turns-still bytes (idle some none) = record { bytes = bytes; same-length = refl }
 turns-still {quantum} {b} bytes (turn t some is rest) =
-    let now = rest-still (task t) true (turnLength quantum (b .left)) (b .memory) (taskAt (b .tasks) t .machine) bytes in
+    let now = rest-still (task t) (asTask t) (turnLength quantum (b .left)) (b .memory) (taskAt (b .tasks) t .machine) bytes in
     let later = turns-still (now .bytes) rest in
     record { bytes = later .bytes; same-length = later .same-length ∙ now .same-length }
 

@@ -13,10 +13,11 @@ use Rattle.plain.specs.All.{All}
 use Rattle.plain.specs.Laws.Choice.{both-parts, both-hold, is-true}
 use Rattle.machine.specs.State.{wellFormed, Whole}
 use Rattle.machine.specs.Step.{Stepped, refused, done, stepOf}
-use Rattle.machine.specs.Run.{After, ended, passes, runFrom}
+use Rattle.machine.specs.Lines.{letIn}
+use Rattle.machine.specs.Run.{After, ended, mannerOf, passes, runFrom}
 use Rattle.machine.specs.Tasks.{Task, taskAt, ready, isReady, leftBy, Between, turnLength, afterTurn, canKeep, taskGood, allGood, AllWhole}
 use Rattle.machine.specs.Laws.Along.{along}
-use Rattle.machine.specs.Laws.Kept.{Formed, formed, formed-true, Good, step-kept}
+use Rattle.machine.specs.Laws.Kept.{Formed, formed, formed-true, Good, step-kept, let-in-good}
 use Rattle.machine.specs.Laws.Onward.{Onward, goes-on, stopped, onward}
 use Rattle.machine.specs.Laws.Refusals.{refused-leaves}
 use Rattle.machine.specs.declared.Machine.{Machine}
@@ -53,56 +54,59 @@ turn-within quantum left = go (ltb quantum left) refl
     go true e = let below = ltb-true quantum left e in omega arith
     go false e = le-refl left
 
-module _ (reach : Reach) (k : ℕ) (mem : List ℕ) (m : Machine) where
+module _ (reach : Reach) (lined : Bool) (k : ℕ) (mem : List ℕ) (m : Machine) where
   -- a turn of at most k steps
   abbrev turn : After
-  turn = runFrom reach true k mem m 0 0
+  turn = runFrom reach (mannerOf true lined) k mem m 0 0
 
-  ends : Onward reach k k 0 0 0 (runFrom reach false k mem m 0 0) turn
-  ends = onward reach k k (le-refl k) mem m 0 0 0 0
+  ends : Onward reach lined k k 0 0 0 (runFrom reach (mannerOf false lined) k mem m 0 0) turn
+  ends = onward reach lined k k (le-refl k) mem m 0 0 0 0
 
   pub turn-keeps : T (canKeep (turn .ran .answer))
   turn-keeps = go _ turn ends
     where
-      go : (run a : After) → Onward reach k k 0 0 0 run a → T (canKeep (a .ran .answer))
+      go : (run a : After) → Onward reach lined k k 0 0 0 run a → T (canKeep (a .ran .answer))
       go run a (goes-on one rest all is) = subst (λ (n : ℕ). T (canKeep n)) (sym one) tt
       go run a (stopped e below is) = refused-leaves reach (a .memory) (a .ran .machine) (a .ran .answer) e .0
 
   pub turn-steps : turn .ran .steps .0 ≤ k
   turn-steps = go _ turn ends
     where
-      go : (run a : After) → Onward reach k k 0 0 0 run a → a .ran .steps .0 ≤ k
+      go : (run a : After) → Onward reach lined k k 0 0 0 run a → a .ran .steps .0 ≤ k
       go run a (goes-on one rest all is) = omega arith
       go run a (stopped e below is) = omega arith
 
   pub turn-good : Whole m → Formed m → Good mem (turn .memory) (turn .ran .machine)
   turn-good whole formed =
-      along reach true (λ now m n c. Good mem now m)
+      along reach (mannerOf true lined) (λ now m n c. Good mem now m)
       (λ now m n c mem′ m′ cost so-far e.
       let g = step-kept reach now m mem′ m′ cost (so-far .whole) (so-far .formed) e in
       record { whole = g .whole; formed = g .formed; same-length = g .same-length ∙ so-far .same-length })
+      (λ now m n c so-far.
+      let g = let-in-good lined now m (so-far .whole) (so-far .formed) in
+      record { whole = g .whole; formed = g .formed; same-length = so-far .same-length })
       k mem m 0 0 (record { whole = whole; formed = formed; same-length = refl })
 
 -- a turn that can go on has carried out an instruction
-module _ (reach : Reach) where
+module _ (reach : Reach) (lined : Bool) where
   moved : (k : ℕ) (mem : List ℕ) (m : Machine) (s : Stepped) → stepOf reach mem m ≡ s → (a : After) →
       a ≡ elim s as (λ x. After) [
         | refused number ↦ ended number mem m 0 0
-        | done mem′ m′ cost ↦ pick (passes true mem m) (ended 1 mem′ m′ 1 (0 + cost)) (runFrom reach true k mem′ m′ 1 (0 + cost))
+        | done mem′ m′ cost ↦ pick (passes true mem m) (ended 1 mem′ m′ 1 (0 + cost)) (runFrom reach (mannerOf true lined) k mem′ m′ 1 (0 + cost))
       ] → a .ran .answer ≡ ready → 1 ≤ a .ran .steps .0
   moved k mem m (refused number) e a is on =
       absurd (refused-leaves reach mem m number e .1 (sym (ap (λ (x : After). x .ran .answer) is) ∙ on))
   moved k mem m (done mem′ m′ cost) e a is on = omega (arith, ap (λ (x : After). x .ran .steps .0) is, go (passes true mem m))
     where
-      go : (b : Bool) → 1 ≤ pick b (ended 1 mem′ m′ 1 (0 + cost)) (runFrom reach true k mem′ m′ 1 (0 + cost)) .ran .steps .0
+      go : (b : Bool) → 1 ≤ pick b (ended 1 mem′ m′ 1 (0 + cost)) (runFrom reach (mannerOf true lined) k mem′ m′ 1 (0 + cost)) .ran .steps .0
       go true = omega arith
-      go false = along reach true (λ mem m n c. 1 ≤ n) (λ mem m n c mem′ m′ k now e. omega arith) k mem′ m′ 1 (0 + cost) (omega arith)
+      go false = along reach (mannerOf true lined) (λ mem m n c. 1 ≤ n) (λ mem m n c mem′ m′ k now e. omega arith) (λ mem m n c now. now) k mem′ m′ 1 (0 + cost) (omega arith)
 
-  pub turn-moves : (k : ℕ) (mem : List ℕ) (m : Machine) → 1 ≤ k → runFrom reach true k mem m 0 0 .ran .answer ≡ ready →
-      1 ≤ runFrom reach true k mem m 0 0 .ran .steps .0
+  pub turn-moves : (k : ℕ) (mem : List ℕ) (m : Machine) → 1 ≤ k → runFrom reach (mannerOf true lined) k mem m 0 0 .ran .answer ≡ ready →
+      1 ≤ runFrom reach (mannerOf true lined) k mem m 0 0 .ran .steps .0
   unfolding runFrom
   turn-moves zero mem m some on = absurd (omega arith)
-  turn-moves (suc k) mem m some on = moved k mem m (stepOf reach mem m) refl (runFrom reach true (suc k) mem m 0 0) refl on
+  turn-moves (suc k) mem m some on = moved k mem (letIn lined m) (stepOf reach mem (letIn lined m)) refl (runFrom reach (mannerOf true lined) (suc k) mem m 0 0) refl on
 
 -- how many tasks are ready
 abbrev pub one : Bool → ℕ

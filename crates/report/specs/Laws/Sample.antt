@@ -3,6 +3,7 @@ use mathlib.Core.List.{[], _∷_}
 use mathlib.Core.Path.{_≡_, refl}
 use lib.ListN.{replicate}
 use Rattle.links.specs.Fresh.{freshLinks}
+use Rattle.machine.specs.Lines.{noLines}
 use Rattle.machine.specs.State.{noThrow}
 use Rattle.machine.specs.declared.Ran.{Ran}
 use Rattle.numbers.specs.Digits.{digits, decimal, hexadecimal}
@@ -14,7 +15,7 @@ sampleRan =
       answer = 0;
       steps = record { 0 = 3 };
       cycles = record { 0 = 5 };
-      machine = record { cells = 0x0C ∷ replicate 63 0; p = 1; links = freshLinks; counter = 5; flag = 0; thrown = noThrow };
+      machine = record { cells = 0x0C ∷ replicate 63 0; p = 1; links = freshLinks; counter = 5; flag = 0; thrown = noThrow; lines = noLines };
     }
 
 pub sample-text : textOf sampleRan ≡

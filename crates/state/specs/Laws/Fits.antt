@@ -42,6 +42,9 @@ machine-carried m whole h =
     and h .flag-fits
     and h .thrown-fits .address-fits
     and h .thrown-fits .code-fits
+    and h .lines-fit .mask-fits
+    and h .lines-fit .waiting-fits
+    and h .lines-fit .block-fits
     and tt
 
 -- what is carried exists
@@ -65,6 +68,7 @@ links-exist l h =
 
 pub machine-exists : (m : Machine) → state .Fits m → Fits m
 machine-exists m h =
+    let lines = h .1 .1 .1 .1 .1 .1 .1 in
     record {
       cells-fit = h .0 .1;
       p-fits = h .1 .0;
@@ -72,6 +76,7 @@ machine-exists m h =
       counter-fits = h .1 .1 .1 .0;
       flag-fits = h .1 .1 .1 .1 .0;
       thrown-fits = record { address-fits = h .1 .1 .1 .1 .1 .0; code-fits = h .1 .1 .1 .1 .1 .1 .0 };
+      lines-fit = record { mask-fits = lines .0; waiting-fits = lines .1 .0; block-fits = lines .1 .1 .0 };
     }
 
 -- its lists are as long as the arrays that they stand for

@@ -10,21 +10,21 @@ abbrev placesFrom : {A : Type 0} → ℕ → List (Field A) → List ℕ
 placesFrom at [] = []
 placesFrom at (f ∷ fs) = at ∷ placesFrom (at + f .part .width) fs
 
--- cells, P, links, counter, flag, address and code of the last THROW
-pub state-places : placesFrom 0 stateFields ≡ 0 ∷ 256 ∷ 264 ∷ 3520 ∷ 3524 ∷ 3528 ∷ 3532 ∷ []
+-- cells, P, links, counter, flag, address and code of the last THROW, mask, waiting requests, block
+pub state-places : placesFrom 0 stateFields ≡ 0 ∷ 256 ∷ 264 ∷ 3520 ∷ 3524 ∷ 3528 ∷ 3532 ∷ 3536 ∷ 3540 ∷ 3544 ∷ []
 state-places = refl
 
-pub state-takes : state .width ≡ 3536
+pub state-takes : state .width ≡ 3548
 state-takes = refl
 
 -- machine, kept number
-pub task-places : placesFrom 0 taskFields ≡ 0 ∷ 3536 ∷ []
+pub task-places : placesFrom 0 taskFields ≡ 0 ∷ 3548 ∷ []
 task-places = refl
 
-pub task-takes : task .width ≡ 3544
+pub task-takes : task .width ≡ 3556
 task-takes = refl
 
-pub tasks-take : tasks .width ≡ 14176
+pub tasks-take : tasks .width ≡ 14224
 tasks-take = refl
 
 -- within the links: return cells, R, frames of 76 bytes, S, exception levels of 52 bytes, E

@@ -67,7 +67,7 @@ abbrev pub Agree : {A : Type 0} → List (Field A) → A → A → Type 0
 Agree [] a b = Unit {0}
 Agree (f ∷ fs) a b = (f .get a ≡ f .get b) × Agree fs a b
 
-length-fields : {A : Type 0} (fs : List (Field A)) → AllSound fs → (a : A) → FieldsFit fs a → length (fieldBytes fs a) ≡ fieldsWidth fs
+pub length-fields : {A : Type 0} (fs : List (Field A)) → AllSound fs → (a : A) → FieldsFit fs a → length (fieldBytes fs a) ≡ fieldsWidth fs
 unfolding fieldBytes
 length-fields [] sound a h = refl
 length-fields (f ∷ fs) sound a h =

@@ -37,7 +37,7 @@ links-sound =
 pub state-sound : Sound state
 state-sound =
     fields-sound stateFields
-    (array-sound cell cell-sound cellsDepth and pointer-sound and links-sound and cell-sound and cell-sound and cell-sound and cell-sound and tt)
+    (array-sound cell cell-sound cellsDepth and pointer-sound and links-sound and cell-sound and cell-sound and cell-sound and cell-sound and cell-sound and cell-sound and cell-sound and tt)
     (λ m n e i.
     record {
       cells = e .0 i;
@@ -46,6 +46,12 @@ state-sound =
       counter = e .1 .1 .1 .0 i;
       flag = e .1 .1 .1 .1 .0 i;
       thrown = record { address = e .1 .1 .1 .1 .1 .0 i; code = e .1 .1 .1 .1 .1 .1 .0 i };
+      lines =
+          record {
+            mask = e .1 .1 .1 .1 .1 .1 .1 .0 i;
+            waiting = e .1 .1 .1 .1 .1 .1 .1 .1 .0 i;
+            block = e .1 .1 .1 .1 .1 .1 .1 .1 .1 .0 i;
+          };
     })
 
 pub task-sound : Sound task

@@ -12,11 +12,11 @@ use Rattle.numbers.specs.Laws.Bytes.{same-number, length-bytes}
 use Rattle.word.specs.Dispatch.{twoCellsOf}
 use Rattle.word.specs.declared.Outcome.{Outcome}
 use Rattle.word.specs.declared.Outcome.the-variants.{Single, Double, DivisorZero}
-use Rattle.machine.specs.Codes.{Link, >R, R-AT, R>, CATCH, RESETSP, THROW, JSL, JSR, EXIT, Op, SHUFFLE, JUMP, LINK, ONE, TWO, FETCH, STORE, LITERAL}
+use Rattle.machine.specs.Codes.{Link, >R, R-AT, R>, CATCH, RESETSP, THROW, JSL, JSR, EXIT, RTI, Op, SHUFFLE, JUMP, LINK, ONE, TWO, FETCH, STORE, LITERAL}
 use Rattle.machine.specs.Reach.{mayTouch, barOf}
 use Rattle.machine.specs.Memory.{size, placeOf}
 use Rattle.machine.specs.Fetch.{Instruction}
-use Rattle.machine.specs.Rows.{Row, top, second, cellsRow, throwRow, rowOf, linkRow, twoRow, fetchRow, storeRow}
+use Rattle.machine.specs.Rows.{Row, aRoutine, releasing, noReturn, top, second, cellsRow, lacking, exitRow, throwRow, rowOf, linkRow, twoRow, fetchRow, storeRow}
 use Rattle.machine.specs.Checks.{tests}
 use Rattle.machine.specs.Step.{put}
 use Rattle.machine.specs.Laws.Clash.{clash}
@@ -60,6 +60,11 @@ module _ (i : Instruction) (mem twin : List ℕ) (m : Machine) (alike : Alike (i
   throw-same true = stores-nothing _ _ refl (λ h. refl) refl refl
   throw-same false = stores-nothing _ _ refl (λ h. refl) refl refl
 
+  rti-same : (b : Bool) →
+      SameRow (pick b (lacking i mem m aRoutine) (releasing (exitRow i mem m))) (pick b (lacking i twin m aRoutine) (releasing (exitRow i twin m)))
+  rti-same true = stores-nothing _ _ refl (λ h. refl) refl refl
+  rti-same false = stores-nothing _ _ refl (λ h. refl) refl refl
+
   link-same : (o : Link) → SameRow (linkRow i mem m o) (linkRow i twin m o)
   link-same >R = stores-nothing _ _ refl (λ h. refl) refl refl
   link-same R-AT = stores-nothing _ _ refl (λ h. refl) refl refl
@@ -70,6 +75,7 @@ module _ (i : Instruction) (mem twin : List ℕ) (m : Machine) (alike : Alike (i
   link-same JSL = stores-nothing _ _ refl (λ h. refl) refl refl
   link-same JSR = stores-nothing _ _ refl (λ h. refl) refl refl
   link-same EXIT = stores-nothing _ _ refl (λ h. refl) refl refl
+  link-same RTI = rti-same (noReturn m)
 
   two-same : (o : Outcome) → SameRow (twoRow i mem m o) (twoRow i twin m o)
   two-same (Single value flag) = stores-nothing _ _ refl (λ h. refl) refl refl

@@ -11,8 +11,9 @@ use Rattle.machine.specs.Reach.{Bar, none, outside, foreign}
 use Rattle.machine.specs.Fetch.{Instruction, instructionAt}
 use Rattle.machine.specs.Rows.{rowOf}
 use Rattle.machine.specs.Checks.{Test, tests}
+use Rattle.machine.specs.Lines.{letIn}
 use Rattle.machine.specs.Step.{Stepped, refused, done, put, costOf, unless, carry, carried, rowAt, stepOf}
-use Rattle.machine.specs.Run.{After, ended, passes, runFrom}
+use Rattle.machine.specs.Run.{After, Manner, ended, passes, runFrom}
 use Rattle.machine.specs.Laws.Along.{along}
 use Rattle.machine.specs.Laws.Passed.{AllPass, step-done}
 use Rattle.machine.specs.Laws.Unbarred.{fetch-unbarred}
@@ -98,22 +99,22 @@ step-spares reach mem m mem′ m′ k e =
     let row = same-row i mem mem m (alike-itself reach mem) (entryAt (i .code) .op) in
     λ a out. ap (λ (x : List ℕ). byteAt x a) (d .memory) ∙ row .same-effect (d .passed) .spared a out
 
-module _ (reach : Reach) (inTurns : Bool) where
-  pub run-spares : (left : ℕ) (mem : List ℕ) (m : Machine) (n c : ℕ) → Spares reach mem (runFrom reach inTurns left mem m n c .memory)
+module _ (reach : Reach) (manner : Manner) where
+  pub run-spares : (left : ℕ) (mem : List ℕ) (m : Machine) (n c : ℕ) → Spares reach mem (runFrom reach manner left mem m n c .memory)
   run-spares left mem m n c =
-      along reach inTurns (λ now m n c. Spares reach mem now)
-      (λ now m n c mem′ m′ k so-far e a out. step-spares reach now m mem′ m′ k e a out ∙ so-far a out) left mem m n c (λ a out. refl)
+      along reach manner (λ now m n c. Spares reach mem now)
+      (λ now m n c mem′ m′ k so-far e a out. step-spares reach now m mem′ m′ k e a out ∙ so-far a out) (λ now m n c so-far. so-far) left mem m n c (λ a out. refl)
 
   abbrev SameRest : ℕ → Type 0
   SameRest left = (mem twin : List ℕ) (m : Machine) (n c : ℕ) → Alike reach mem twin →
-      SameRun reach (runFrom reach inTurns left mem m n c) (runFrom reach inTurns left twin m n c)
+      SameRun reach (runFrom reach manner left mem m n c) (runFrom reach manner left twin m n c)
 
   -- what a step leads to, where it passes the turn and where it does not
   abbrev onward : ℕ → List ℕ → Machine → ℕ → ℕ → Bool → Stepped → After
   onward left mem m n c passing s =
       elim s as (λ x. After) [
         | refused number ↦ ended number mem m n c
-        | done mem′ m′ cost ↦ pick passing (ended 1 mem′ m′ (suc n) (c + cost)) (runFrom reach inTurns left mem′ m′ (suc n) (c + cost))
+        | done mem′ m′ cost ↦ pick passing (ended 1 mem′ m′ (suc n) (c + cost)) (runFrom reach manner left mem′ m′ (suc n) (c + cost))
       ]
 
   same-onward : (left : ℕ) (mem twin : List ℕ) (m : Machine) (n c : ℕ) → Alike reach mem twin → (x y : Bool) (s t : Stepped) →
@@ -131,6 +132,8 @@ module _ (reach : Reach) (inTurns : Bool) where
   unfolding runFrom
   same-run zero mem twin m n c alike = record { same-ran = refl; alike = alike }
   same-run (suc left) mem twin m n c alike =
-      same-onward left mem twin m n c alike (passes inTurns mem m) (passes inTurns twin m) (stepOf reach mem m) (stepOf reach twin m)
-      (λ mem′ m′ k e. ap (λ (b : ℕ). both inTurns (eqb b codePAUSE)) (same-code-done reach mem twin m alike mem′ m′ k e)) (same-run left)
-      (same-step reach mem twin m alike)
+      let now = letIn (manner .lined) m in
+      let inTurns = manner .inTurns in
+      same-onward left mem twin now n c alike (passes inTurns mem now) (passes inTurns twin now) (stepOf reach mem now) (stepOf reach twin now)
+      (λ mem′ m′ k e. ap (λ (b : ℕ). both inTurns (eqb b codePAUSE)) (same-code-done reach mem twin now alike mem′ m′ k e)) (same-run left)
+      (same-step reach mem twin now alike)

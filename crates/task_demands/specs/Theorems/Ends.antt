@@ -33,10 +33,10 @@ ends-from quantum some (suc most) b bound within four =
     let a = turnOf quantum b t in
     let m = taskAt (b .tasks) t .machine in
     let k = turnLength quantum (b .left) in
-    let steps : a .ran .steps .0 ≤ k = turn-steps (task t) k (b .memory) m in
+    let steps : a .ran .steps .0 ≤ k = turn-steps (task t) (eqb t 0) k (b .memory) m in
     let short : k ≤ b .left = turn-within quantum (b .left) in
     let less : toGo (afterTurn b t a) < toGo b =
-    less-to-go b t a (omega arith) (turn-moves (task t) k (b .memory) m (turn-length quantum (b .left) some more)) (omega (arith, next .1)) (next .0) in
+    less-to-go b t a (omega arith) (turn-moves (task t) (eqb t 0) k (b .memory) m (turn-length quantum (b .left) some more)) (omega (arith, next .1)) (next .0) in
     ends-from quantum some most (afterTurn b t a) (omega arith) (omega arith) (as-many b t a ∙ four))
   where
     by-next : (w : Whose) → nextReady (b .tasks) (b .from) ≡ w → 0 < b .left →

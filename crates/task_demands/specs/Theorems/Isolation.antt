@@ -9,7 +9,7 @@ use Rattle.plain.specs.Choice.{pick, both}
 use Rattle.machine.specs.Limits.{sharedLength, partLength}
 use Rattle.machine.specs.Reach.{partStart, task, mayTouch}
 use Rattle.machine.specs.Run.{runFrom}
-use Rattle.machine.specs.Tasks.{taskAt, Between, turnLength, turnOf, afterTurn}
+use Rattle.machine.specs.Tasks.{taskAt, Between, turnLength, asTask, turnOf, afterTurn}
 use Rattle.machine.specs.declared.Machine.{Machine}
 use Rattle.task_demands.specs.Isolation.{Spares, Alike, SameRun, InPart, LeavesAlone}
 use Rattle.machine.specs.Laws.After.{other-task}
@@ -35,7 +35,7 @@ out-of-reach t u a other part =
 
 -- a turn touches no byte out of its task's reach
 pub turn-spares : (quantum : ℕ) (b : Between) (t : ℕ) → Spares (task t) (b .memory) (turnOf quantum b t .memory)
-turn-spares quantum b t = run-spares (task t) true (turnLength quantum (b .left)) (b .memory) (taskAt (b .tasks) t .machine) 0 0
+turn-spares quantum b t = run-spares (task t) (asTask t) (turnLength quantum (b .left)) (b .memory) (taskAt (b .tasks) t .machine) 0 0
 
 -- so it leaves alone what is another's
 pub turn-leaves-alone : (quantum : ℕ) (b : Between) (t u : ℕ) → (u ≡ t → ⊥) → LeavesAlone u b (afterTurn b t (turnOf quantum b t))
@@ -51,10 +51,10 @@ pub turn-takes-no-notice : (quantum : ℕ) (b twin : Between) (t : ℕ) → task
     b .left ≡ twin .left → Alike (task t) (b .memory) (twin .memory) → SameRun (task t) (turnOf quantum b t) (turnOf quantum twin t)
 turn-takes-no-notice quantum b twin t machine left alike =
     subst
-    (λ (m : Machine). SameRun (task t) (turnOf quantum b t) (runFrom (task t) true (turnLength quantum (twin .left)) (twin .memory) m 0 0))
+    (λ (m : Machine). SameRun (task t) (turnOf quantum b t) (runFrom (task t) (asTask t) (turnLength quantum (twin .left)) (twin .memory) m 0 0))
     machine
     (subst
     (λ (n : ℕ).
-    SameRun (task t) (turnOf quantum b t) (runFrom (task t) true (turnLength quantum n) (twin .memory) (taskAt (b .tasks) t .machine) 0 0))
+    SameRun (task t) (turnOf quantum b t) (runFrom (task t) (asTask t) (turnLength quantum n) (twin .memory) (taskAt (b .tasks) t .machine) 0 0))
     left
-    (same-run (task t) true (turnLength quantum (b .left)) (b .memory) (twin .memory) (taskAt (b .tasks) t .machine) 0 0 alike))
+    (same-run (task t) (asTask t) (turnLength quantum (b .left)) (b .memory) (twin .memory) (taskAt (b .tasks) t .machine) 0 0 alike))

@@ -5,7 +5,7 @@ use mathlib.Core.List.{List}
 use Prim.Native.Nat.{ℕ, _+_, _*_, _≤_, _<_}
 use native.Mathlib.Omega.{arith}
 use borrow.Author.Tests.{eq-eqb, le-leb}
-use lib.Dec.{T}
+use lib.Dec.{T, eqb}
 use lib.ListN.{length, replicate}
 use Rattle.plain.specs.All.{All}
 use Rattle.plain.specs.Laws.All.{all-at, all-set}
@@ -16,7 +16,7 @@ use Rattle.machine.specs.Reach.{task}
 use Rattle.links.specs.Fresh.{freshLinks}
 use Rattle.links.specs.Linked.{linked}
 use Rattle.machine.specs.State.{wellFormed, machineWith, freshMachine}
-use Rattle.machine.specs.Tasks.{Task, freshTask, isReady, taskAt, Between, TasksAfter, endedAt, turnLength, turnOf, afterTurn, canKeep, allGood, TurnsFrom, tasksAcceptable, RunsTasks, declined, ran, AllWhole, leftBy, noTask}
+use Rattle.machine.specs.Tasks.{Task, freshTask, isReady, taskAt, Between, TasksAfter, endedAt, turnLength, asTask, turnOf, afterTurn, canKeep, allGood, TurnsFrom, tasksAcceptable, RunsTasks, declined, ran, AllWhole, leftBy, noTask}
 use Rattle.machine.specs.Tasks as runs
 use Rattle.machine.specs.Laws.Clash.{clash}
 use Rattle.machine.specs.Laws.Costs.{run-bounded}
@@ -26,9 +26,9 @@ use Rattle.task_demands.specs.Laws.Circular.{none-ready}
 use Rattle.machine.specs.Laws.TasksTaken.{taken}
 use Rattle.machine.specs.Laws.Turns.{GoodTask, good-tasks, all-good, turn-within, turn-keeps, turn-steps, turn-good}
 
--- the numbers with which a turn ends: 1, or 0, 3 to 13 and 17, by which an instruction is refused
+-- the numbers with which a turn ends: 1, or 0, 3 to 13, 16 and 17, by which an instruction is refused
 pub turn-answer : (quantum : ℕ) (b : Between) (t : ℕ) → T (canKeep (turnOf quantum b t .ran .answer))
-turn-answer quantum b t = turn-keeps (task t) (turnLength quantum (b .left)) (b .memory) (taskAt (b .tasks) t .machine)
+turn-answer quantum b t = turn-keeps (task t) (eqb t 0) (turnLength quantum (b .left)) (b .memory) (taskAt (b .tasks) t .machine)
 
 -- fresh tasks are ready, and a run takes four of them
 pub fresh-ready : isReady freshTask ≡ true
@@ -56,9 +56,9 @@ turn-holds quantum budget b t within h =
     let m = taskAt (b .tasks) t .machine in
     let a = turnOf quantum b t in
     let own = all-at GoodTask (b .tasks) (h .good) t noTask (omega (arith, h .four)) in
-    let g = turn-good (task t) k (b .memory) m (own .whole) (own .formed) in
-    let cycles = run-bounded (task t) true k (b .memory) m 0 0 (omega arith) (omega arith) in
-    let steps : a .ran .steps .0 ≤ k = turn-steps (task t) k (b .memory) m in
+    let g = turn-good (task t) (eqb t 0) k (b .memory) m (own .whole) (own .formed) in
+    let cycles = run-bounded (task t) (asTask t) k (b .memory) m 0 0 (omega arith) (omega arith) in
+    let steps : a .ran .steps .0 ≤ k = turn-steps (task t) (eqb t 0) k (b .memory) m in
     let short : k ≤ b .left = turn-within quantum (b .left) in
     record {
       from-within = omega arith;

@@ -1,4 +1,4 @@
--- A run of four tasks of which one is ready is that task's single run under its reach.
+-- A run of four tasks of which one is ready is that task's single run under its reach, which lines may enter where it is task 0 and not else.
 use mathlib.Core.Path.{_≡_, refl, sym, ap, _∙_, subst}
 use mathlib.Core.Bool.{Bool, true, false}
 use mathlib.Core.List.{List}
@@ -18,7 +18,7 @@ use Rattle.machine.specs.Tasks.{Task, taskOf, taskAt, ready, isReady, Between, 
 use Rattle.machine.specs.Laws.Clash.{clash}
 use Rattle.machine.specs.Laws.Onward.{runOn, Onward, goes-on, stopped, onward}
 use Rattle.machine.specs.Laws.Refusals.{refused-leaves}
-use Rattle.task_demands.specs.Single.{OnlyReady, toldOfTasks}
+use Rattle.task_demands.specs.Single.{OnlyReady, singly, toldOfTasks}
 use Rattle.machine.specs.Laws.After.{as-many, own-task, other-task}
 use Rattle.task_demands.specs.Laws.Circular.{none-ready}
 use Rattle.machine.specs.Laws.TasksTaken.{taken}
@@ -35,7 +35,7 @@ no-turn {b = b} within some none (turn t some′ is rest) =
 
 -- the single run from here
 abbrev fromHere : Between → ℕ → After
-fromHere b u = runFrom (task u) false (b .left) (b .memory) (taskAt (b .tasks) u .machine) (b .steps) (b .cycles)
+fromHere b u = runFrom (task u) (singly u) (b .left) (b .memory) (taskAt (b .tasks) u .machine) (b .steps) (b .cycles)
 
 abbrev Claim : Between → ℕ → TasksAfter → Type 0
 Claim b u end = end ≡ toldOfTasks (b .left + b .steps) (b .tasks) u (fromHere b u)
@@ -54,15 +54,15 @@ module _ (b : Between) (t : ℕ) (only : OnlyReady t (b .tasks)) (four : length 
       record { within = only .within; is-ready = ap isReady own ∙ eq-eqb (a .ran .answer) ready e; no-other = no-other }
 
   -- it can go on: the rest is the rest of its single run
-  going-on : (rest : ℕ) (end : TasksAfter) → b .left + 0 ≡ rest + a .ran .steps .0 → fromHere b t ≡ runOn (task t) rest (b .steps) (b .cycles) a →
+  going-on : (rest : ℕ) (end : TasksAfter) → b .left + 0 ≡ rest + a .ran .steps .0 → fromHere b t ≡ runOn (task t) (eqb t 0) rest (b .steps) (b .cycles) a →
       Claim (afterTurn b t a) t end → Claim b t end
   going-on rest end all is later =
       let after = afterTurn b t a in
       let left-is : after .left ≡ rest = omega arith in
       let budget-is : after .left + after .steps ≡ b .left + b .steps = omega arith in
       let run-is : fromHere after t ≡ fromHere b t =
-      ap (λ (n : ℕ). runFrom (task t) false n (a .memory) (taskAt (after .tasks) t .machine) (after .steps) (after .cycles)) left-is
-      ∙ (ap (λ (x : Task). runFrom (task t) false rest (a .memory) (x .machine) (after .steps) (after .cycles)) own ∙ sym is) in
+      ap (λ (n : ℕ). runFrom (task t) (singly t) n (a .memory) (taskAt (after .tasks) t .machine) (after .steps) (after .cycles)) left-is
+      ∙ (ap (λ (x : Task). runFrom (task t) (singly t) rest (a .memory) (x .machine) (after .steps) (after .cycles)) own ∙ sym is) in
       later
       ∙ (ap (λ (n : ℕ). toldOfTasks n (after .tasks) t (fromHere after t)) budget-is
       ∙ (ap (toldOfTasks (b .left + b .steps) (after .tasks) t) run-is
@@ -104,7 +104,7 @@ module _ (b : Between) (t : ℕ) (only : OnlyReady t (b .tasks)) (four : length 
 
 -- t's turn, whichever way it ends
 onward-claim : (quantum : ℕ) (b : Between) (t : ℕ) → OnlyReady t (b .tasks) → length (b .tasks) ≡ tasksCount → (end : TasksAfter) (run a : After) (k : ℕ) → k ≤ b .left →
-    run ≡ fromHere b t → Onward (task t) k (b .left) (b .steps) (b .cycles) 0 run a → TurnsFrom quantum (afterTurn b t a) end →
+    run ≡ fromHere b t → Onward (task t) (eqb t 0) k (b .left) (b .steps) (b .cycles) 0 run a → TurnsFrom quantum (afterTurn b t a) end →
     (OnlyReady t (afterTurn b t a .tasks) → Claim (afterTurn b t a) t end) → Claim b t end
 onward-claim quantum b t only four end run a k short same (goes-on one rest all is) turns later =
     going-on b t only four a rest end all (sym same ∙ is) (later (still-only b t only four a one))
@@ -118,7 +118,7 @@ unfolding runFrom
 spent-claim b u e is =
     let m = taskAt (b .tasks) u .machine in
     let over : fromHere b u ≡ ended 1 (b .memory) m (b .steps) (b .cycles) =
-    ap (λ (n : ℕ). runFrom (task u) false n (b .memory) m (b .steps) (b .cycles)) e in
+    ap (λ (n : ℕ). runFrom (task u) (singly u) n (b .memory) m (b .steps) (b .cycles)) e in
     let same : set (b .tasks) u (taskOf m 1) ≡ b .tasks =
     ap (λ (n : ℕ). set (b .tasks) u (taskOf m n)) (sym (eqb-true (taskAt (b .tasks) u .kept) ready is)) ∙ set-getD (b .tasks) u noTask in
     ap (λ (ts : List Task). record { answer = 1; memory = b .memory; tasks = ts; steps = b .steps; cycles = b .cycles }) (sym same)
@@ -146,19 +146,19 @@ single-from {quantum} {b} {end} u within only four (turn t some is rest) =
     let k = turnLength quantum (b .left) in
     let short = turn-within quantum (b .left) in
     let m = taskAt (b .tasks) t .machine in
-    let counts : runFrom (task t) false (b .left) (b .memory) m (b .steps + 0) (b .cycles + 0) ≡ fromHere b t =
-    ap (λ (n : ℕ). runFrom (task t) false (b .left) (b .memory) m n (b .cycles + 0)) (add-zero (b .steps))
-    ∙ ap (λ (n : ℕ). runFrom (task t) false (b .left) (b .memory) m (b .steps) n) (add-zero (b .cycles)) in
+    let counts : runFrom (task t) (singly t) (b .left) (b .memory) m (b .steps + 0) (b .cycles + 0) ≡ fromHere b t =
+    ap (λ (n : ℕ). runFrom (task t) (singly t) (b .left) (b .memory) m n (b .cycles + 0)) (add-zero (b .steps))
+    ∙ ap (λ (n : ℕ). runFrom (task t) (singly t) (b .left) (b .memory) m (b .steps) n) (add-zero (b .cycles)) in
     subst (λ (v : ℕ). Claim b v end) same
     (onward-claim quantum b t (subst (λ (v : ℕ). OnlyReady v (b .tasks)) (sym same) only) four end _ (turnOf quantum b t) k short counts
-    (onward (task t) k (b .left) short (b .memory) m 0 0 (b .steps) (b .cycles)) rest
+    (onward (task t) (eqb t 0) k (b .left) short (b .memory) m 0 0 (b .steps) (b .cycles)) rest
     (λ now.
     single-from t (omega arith) now (as-many b t (turnOf quantum b t) ∙ four) rest))
 
 pub single : (mem : List ℕ) (tasks : List Task) (quantum budget : ℕ) (end : TasksAfter) (u : ℕ) → OnlyReady u tasks →
     tasksAcceptable mem tasks quantum budget ≡ true → RunsTasks mem tasks quantum budget end →
-    end ≡ toldOfTasks budget tasks u (runFrom (task u) false budget mem (taskAt tasks u .machine) 0 0)
+    end ≡ toldOfTasks budget tasks u (runFrom (task u) (singly u) budget mem (taskAt tasks u .machine) 0 0)
 single mem tasks quantum budget end u only good (declined bad) = clash (tasksAcceptable mem tasks quantum budget) good bad
 single mem tasks quantum budget end u only good (ran good′ run) =
     single-from u (omega arith) only (taken mem tasks quantum budget good .four) run
-    ∙ ap (λ (n : ℕ). toldOfTasks n tasks u (runFrom (task u) false budget mem (taskAt tasks u .machine) 0 0)) (add-zero budget)
+    ∙ ap (λ (n : ℕ). toldOfTasks n tasks u (runFrom (task u) (singly u) budget mem (taskAt tasks u .machine) 0 0)) (add-zero budget)

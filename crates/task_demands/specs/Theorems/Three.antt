@@ -22,7 +22,7 @@ turn-history quantum b u within =
     let a = turnOf quantum b u in
     let c = turn-counts quantum b u in
     subst (λ (x : Task). TurnHistory quantum u b (world (a .memory) (x .machine))) (sym (own-task b u a within))
-    (record { history = c .history; unbroken = c .unbroken; under = c .under; steps = omega (arith, c .steps); cycles = omega (arith, c .cycles) })
+    (record { history = c .history; unbroken = c .unbroken; under = c .under; lines = c .lines; steps = omega (arith, c .steps); cycles = omega (arith, c .cycles) })
 
 -- any turns are a history of each task
 pub task-history : {quantum : ℕ} {b : Between} {end : TasksAfter} (u : ℕ) → u < length (b .tasks) → (run : TurnsFrom quantum b end) → TaskHistory quantum u run

@@ -1,4 +1,4 @@
--- Made by .ci/named from declined.rules: 73459cc96fa2cc72 82bf41d896d15cc8
+-- Made by .ci/named from declined.rules: c043f6535749424b d644eefc28f9f7f2
 -- The fresh machine with these cells, handed back.
 use mathlib.Core.Path.{ap, _∙_}
 use Rattle.plain.specs.Zeros.{padded}
@@ -17,7 +17,7 @@ ended-requires c κs = search needs
 
 returns : tie.Need-returns
 unfolding freshMachine machineWith padded
-returns c = c .ended .ensures ∙ ap (λ (m : Machine). ranOf 2 (record { 0 = 0 }) (record { 0 = 0 }) (record { cells = c .before .before .args .cells; p = c .before .before .args .p; links = m .links; counter = m .counter; flag = m .flag; thrown = m .thrown })) (c .before .fresh .ensures)
+returns c = c .ended .ensures ∙ ap (λ (m : Machine). ranOf 2 (record { 0 = 0 }) (record { 0 = 0 }) (record { cells = c .before .before .args .cells; p = c .before .before .args .p; links = m .links; counter = m .counter; flag = m .flag; thrown = m .thrown; lines = m .lines })) (c .before .fresh .ensures)
 
 pub declined-spec : {M : Type 1} → statement M
 declined-spec =

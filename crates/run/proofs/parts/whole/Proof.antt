@@ -1,5 +1,5 @@
--- Made by .ci/named from whole.rules: fc44cd406011c20c 7fda40205f4317fa
--- The machine's levels and its last THROW are those of the rows.
+-- Made by .ci/named from whole.rules: fba774563aecfb16 c8e51b331a09162e
+-- The machine's levels, its last THROW and its lines are those of the rows.
 use borrow.Author.Needs.{needs}
 use Rattle.run.proofs.parts.whole.Statement.{statement}
 use Rattle.run.proofs.parts.whole.Tie as tie
@@ -13,8 +13,11 @@ levels-whole-requires c κs = search needs
 noted-requires : tie.Need-noted-requires
 noted-requires c κs = search needs
 
+lines-requires : tie.Need-lines-requires
+lines-requires c κs = search needs
+
 returns : tie.Need-returns
-returns c = rw (c .before .before .before .before .frames-whole .ensures, c .before .before .before .levels-whole .ensures, c .before .noted .ensures)
+returns c = rw (c .before .before .before .before .before .frames-whole .ensures, c .before .before .before .before .levels-whole .ensures, c .before .before .noted .ensures, c .before .lines .ensures)
 
 pub whole-spec : {M : Type 1} → statement M
 whole-spec =
@@ -23,4 +26,5 @@ whole-spec =
     frames-whole-requires
     levels-whole-requires
     noted-requires
+    lines-requires
     returns)

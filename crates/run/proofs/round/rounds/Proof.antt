@@ -1,4 +1,4 @@
--- Made by .ci/named from rounds.rules: e201ccebe6d707a7 6a3f74aea7d62ac4
+-- Made by .ci/named from rounds.rules: 2cfa1ae6e44ce34c 2aef1d3edf074d47
 -- The loop is the definition's run: each round is one step of `stepOf`, and what ends it is the definition's own.
 use mathlib.Core.Path.{_≡_, refl, ap, sym, _∙_}
 use mathlib.Core.Bool.{false}
@@ -17,25 +17,28 @@ use Rattle.run.specs.Answers.{saysFetched, saysChecked, saysExit, saysTh
 use Rattle.run.specs.Registers.{machineIn, haltedBy}
 use Rattle.machine.specs.Memory.{size}
 use Rattle.machine.specs.Sum.{sumAfter}
-use Rattle.run.specs.Levels.{framesIn, levelsIn, Note, noteIn, inRows, Laid}
-use Rattle.run.specs.Verdicts.{sAfterPop, eAfterDropOf, eAfterPop}
+use Rattle.run.specs.Levels.{framesIn, levelsIn, noteIn, inRows, Laid}
+use Rattle.run.specs.Notes.{Note}
+use Rattle.machine.specs.Lines.{lowestDue}
+use Rattle.run.specs.Verdicts.{returnable, sAfterPop, eAfterDropOf, eAfterPop}
 use Rattle.reach.specs.declared.Reached.the-variants as reached
 use Rattle.run.specs.declared.Thrown.the-variants as thrown
 use Rattle.run.proofs.Answered.{told}
-use Rattle.run.proofs.Arms.{push-acts, copy-acts, pop-acts, catch-acts, reset-acts, throw-acts, exit-acts, call-acts, call-top-acts, fetch-acts, fetchedAs, store-acts, fetched-whole, kept-whole, long-fetch, written-there, thrown-there, held-there, cells-acts, cells-end, pause-is}
+use Rattle.run.proofs.Arms.{push-acts, copy-acts, pop-acts, catch-acts, reset-acts, throw-acts, exit-acts, rti-acts, call-acts, call-top-acts, fetch-acts, fetchedAs, store-acts, fetched-whole, kept-whole, long-fetch, written-there, thrown-there, held-there, cells-acts, cells-end, pause-is}
 use Rattle.run.proofs.Levels.{caught-above}
+use Rattle.run.proofs.Calms.{unheeded-now, unmarked-then, release-due}
 use Rattle.run.proofs.Loop.{starts}
 use Rattle.run.proofs.Losses.{size-few, nothing-lost, stored-loses}
-use Rattle.run.proofs.Rooms.{push-room, read-room, call-room, catch-room, exit-room, zero-room, code-room, memory-room, view-room, spot-within}
-use Rattle.run.proofs.Rounds.{Round, begins, Found, ends, goes, paused, fetch-ends, foreign-ends, halted-less}
+use Rattle.run.proofs.Rooms.{push-room, read-room, call-room, catch-room, exit-room, return-room, zero-room, code-room, memory-room, view-room, spot-within}
+use Rattle.run.proofs.Rounds.{Round, begins, Found, ends, goes, goes-in, paused, fetch-ends, foreign-ends, halted-less}
 use borrow.Author.Needs.{needs}
 use Rattle.run.proofs.round.rounds.Statement.{statement}
 use Rattle.run.proofs.round.rounds.Tie as tie
 
 abbrev Inv-loop : tie.InvT-loop
 Inv-loop mem₀ cells₀ returns₀ rows₀ copies₀ costs left reach turns regs₀ mem cells returns rows copies regs =
-    Round reach turns mem₀ (machineIn cells₀ returns₀ (framesIn rows₀ copies₀) (levelsIn rows₀ copies₀) (noteIn rows₀ .thrown) regs₀) left mem cells returns (framesIn rows copies) (levelsIn rows copies) (noteIn rows .thrown) regs ×
-    ((costs ≡ cycleTable) × (Laid rows copies × (noteIn rows .lost % 2 ^ 32 ≡ sumAfter (noteIn rows₀ .lost) mem mem₀)))
+    Round reach turns mem₀ (machineIn cells₀ returns₀ (framesIn rows₀ copies₀) (levelsIn rows₀ copies₀) (noteIn rows₀ .aside) regs₀) left (noteIn rows₀ .heeds) mem cells returns (framesIn rows copies) (levelsIn rows copies) (noteIn rows .aside) regs ×
+    ((costs ≡ cycleTable) × (Laid rows copies × ((noteIn rows .lost % 2 ^ 32 ≡ sumAfter (noteIn rows₀ .lost) mem mem₀) × ((noteIn rows .heeds ≡ noteIn rows₀ .heeds) × (lowestDue (noteIn rows .aside .lines) ≡ lowestDue (noteIn rows₀ .aside .lines))))))
 
 abbrev μ-loop : tie.MeasureT-loop
 μ-loop mem₀ cells₀ returns₀ rows₀ copies₀ costs left reach turns regs₀ mem cells returns rows copies regs = regs .left .0
@@ -55,8 +58,8 @@ found : (t : tie.After-known-told Inv-loop μ-loop) →
     let l = loop-of t .loop in
     let f = t .before .fetched .given .0 in
     let a = start-of t .args in
-    Found (a .reach) (a .turns) (a .mem .now) (inRows (a .cells .now) (a .returns .now) (a .rows .now) (a .copies .now) (a .start)) (a .left)
-    (l .mem) (l .cells) (l .returns) (framesIn (l .rows) (l .copies)) (levelsIn (l .rows) (l .copies)) (noteIn (l .rows) .thrown) (l .regs) (f .0) (f .1 .0) (f .1 .1 .0)
+    Found (a .reach) (a .turns) (a .mem .now) (inRows (a .cells .now) (a .returns .now) (a .rows .now) (a .copies .now) (a .start)) (a .left) (noteIn (a .rows .now) .heeds)
+    (l .mem) (l .cells) (l .returns) (framesIn (l .rows) (l .copies)) (levelsIn (l .rows) (l .copies)) (noteIn (l .rows) .aside) (l .regs) (f .0) (f .1 .0) (f .1 .1 .0)
 found t =
     record {
       round = loop-of t .loop .inv .0;
@@ -74,7 +77,7 @@ no-pause : {code : ℕ} → 0x7F < code → code ≡ codePAUSE → ⊥
 no-pause above h = omega arith
 
 loop-holds : tie.Need-loop-holds Inv-loop μ-loop
-loop-holds c = (begins refl refl refl refl (starts (c .before .args .reach) (c .before .args .turns) (c .before .args .mem .now) _ (c .before .args .left) (c .before .pre .accepted) (c .before .pre .whole)), (c .before .pre .priced, (c .before .pre .laid, nothing-lost (noteIn (c .before .args .rows .now) .lost) (c .before .args .mem .now))))
+loop-holds c = (begins refl refl refl refl refl (c .before .pre .calm) (starts (c .before .args .reach) (c .before .args .turns) (c .before .args .mem .now) _ (c .before .args .left) (c .before .pre .accepted) (c .before .pre .whole)), (c .before .pre .priced, (c .before .pre .laid, (nothing-lost (noteIn (c .before .args .rows .now) .lost) (c .before .args .mem .now), (refl, refl)))))
 
 foreign-requires : tie.Need-foreign-requires Inv-loop μ-loop
 foreign-requires c κs = ((c .before .before .before .loop .inv .0) .long, c .before .before .before .before .before .pre .bounded .shared-within)
@@ -134,7 +137,7 @@ loop-less-4 : tie.Need-loop-less-4 Inv-loop μ-loop
 loop-less-4 c = omega (arith, c .counted .ensures .1)
 
 loop-again-4 : tie.Need-loop-again-4 Inv-loop μ-loop
-loop-again-4 c = (goes (found (c .before .before .before .before .before .before .before .before)) (cells-acts (found (c .before .before .before .before .before .before .before .before)) (branches-on (c .before .before .before .before .before .before .before .if3 .taken)) (no-pause (c .before .before .before .before .before .before .before .if3 .taken)) (c .before .before .before .before .before .branches .ensures)) (ap saysDone (c .before .before .before .done .given .1)) refl refl (c .before .price .ensures .0) (c .counted .ensures .0), (c .before .before .before .before .before .before .before .before .before .before .before .before .before .before .before .before .before .before .loop .inv .1))
+loop-again-4 c = (goes (found (c .before .before .before .before .before .before .before .before)) (cells-acts (found (c .before .before .before .before .before .before .before .before)) (branches-on (c .before .before .before .before .before .before .before .if3 .taken)) (no-pause (c .before .before .before .before .before .before .before .if3 .taken)) (c .before .before .before .before .before .branches .ensures)) (ap saysDone (c .before .before .before .done .given .1)) refl refl (record { lines-same = refl; r-rises = omega arith; s-rises = omega arith }) (c .before .price .ensures .0) (c .counted .ensures .0), (c .before .before .before .before .before .before .before .before .before .before .before .before .before .before .before .before .before .before .loop .inv .1))
 
 can-push-requires : tie.Need-can-push-requires Inv-loop μ-loop
 can-push-requires c κs = search needs
@@ -185,7 +188,7 @@ loop-less-6 : tie.Need-loop-less-6 Inv-loop μ-loop
 loop-less-6 c = omega (arith, c .counted2 .ensures .1)
 
 loop-again-6 : tie.Need-loop-again-6 Inv-loop μ-loop
-loop-again-6 c = (goes (found (c .before .before .before .before .before .before .before .before)) (push-acts (found (c .before .before .before .before .before .before .before .before)) (c .before .before .before .before .before .before .match3 .keys1)) (told saysChecked (c .before .before .before .before .before .can-push .ensures) (c .before .before .before .enum-told3 .given .1)) refl refl (c .before .price2 .ensures .0) (c .counted2 .ensures .0), (c .before .before .before .before .before .before .before .before .before .before .before .before .before .before .before .before .before .before .loop .inv .1))
+loop-again-6 c = (goes (found (c .before .before .before .before .before .before .before .before)) (push-acts (found (c .before .before .before .before .before .before .before .before)) (c .before .before .before .before .before .before .match3 .keys1)) (told saysChecked (c .before .before .before .before .before .can-push .ensures) (c .before .before .before .enum-told3 .given .1)) refl refl (record { lines-same = refl; r-rises = omega arith; s-rises = omega arith }) (c .before .price2 .ensures .0) (c .counted2 .ensures .0), (c .before .before .before .before .before .before .before .before .before .before .before .before .before .before .before .before .before .before .loop .inv .1))
 
 can-read-requires : tie.Need-can-read-requires Inv-loop μ-loop
 can-read-requires c κs = search needs
@@ -233,7 +236,7 @@ loop-less-8 : tie.Need-loop-less-8 Inv-loop μ-loop
 loop-less-8 c = omega (arith, c .counted3 .ensures .1)
 
 loop-again-8 : tie.Need-loop-again-8 Inv-loop μ-loop
-loop-again-8 c = (goes (found (c .before .before .before .before .before .before .before .before)) (copy-acts (found (c .before .before .before .before .before .before .before .before)) (c .before .before .before .before .before .before .match3 .keys2)) (told saysChecked (c .before .before .before .before .before .can-read .ensures) (c .before .before .before .enum-told5 .given .1)) refl refl (c .before .price3 .ensures .0) (c .counted3 .ensures .0), (c .before .before .before .before .before .before .before .before .before .before .before .before .before .before .before .before .before .before .loop .inv .1))
+loop-again-8 c = (goes (found (c .before .before .before .before .before .before .before .before)) (copy-acts (found (c .before .before .before .before .before .before .before .before)) (c .before .before .before .before .before .before .match3 .keys2)) (told saysChecked (c .before .before .before .before .before .can-read .ensures) (c .before .before .before .enum-told5 .given .1)) refl refl (record { lines-same = refl; r-rises = omega arith; s-rises = omega arith }) (c .before .price3 .ensures .0) (c .counted3 .ensures .0), (c .before .before .before .before .before .before .before .before .before .before .before .before .before .before .before .before .before .before .loop .inv .1))
 
 can-read-requires-2 : tie.Need-can-read-requires-2 Inv-loop μ-loop
 can-read-requires-2 c κs = search needs
@@ -295,11 +298,17 @@ price-requires-4 c κs = c .before .before .before .before .before .before .befo
 counted-requires-4 : tie.Need-counted-requires-4 Inv-loop μ-loop
 counted-requires-4 c κs = ((found (c .before .before .before .before .before .before .before .before .before .before .before .before .before)) .less, ((omega (arith, (c .before .before .before .before .before .before .before .before .before .before .before .before .before .before .before .before .before .before .before .before .before .before .before .loop .inv .0) .priced, (c .before .before .before .before .before .before .before .before .before .before .before .before .before .before .before .before .before .before .before .before .before .before .before .loop .inv .0) .limit, (c .before .before .before .before .before .before .before .before .before .before .before .before .before .before .before .before .before .before .before .before .before .before .before .loop .inv .0) .left-within, (found (c .before .before .before .before .before .before .before .before .before .before .before .before .before)) .less)), c .price4 .ensures .1))
 
+held-requires : tie.Need-held-requires Inv-loop μ-loop
+held-requires c κs = search needs
+
+parted-requires : tie.Need-parted-requires Inv-loop μ-loop
+parted-requires c κs = search needs
+
 loop-less-10 : tie.Need-loop-less-10 Inv-loop μ-loop
-loop-less-10 c = omega (arith, c .counted4 .ensures .1)
+loop-less-10 c = omega (arith, c .before .before .before .counted4 .ensures .1, c .parted .ensures .1)
 
 loop-again-10 : tie.Need-loop-again-10 Inv-loop μ-loop
-loop-again-10 c = (goes (found (c .before .before .before .before .before .before .before .before .before .before .before .before .before .before)) (pop-acts (found (c .before .before .before .before .before .before .before .before .before .before .before .before .before .before)) (c .before .before .before .before .before .before .before .before .before .before .before .before .match3 .keys3) (c .before .before .before .before .before .before .s-after-pop .ensures ∙ ap (sAfterPop (c .before .before .before .before .before .before .before .before .before .before .before .before .before .before .before .before .before .before .before .before .before .before .before .before .loop .regs .r - 1) (c .before .before .before .before .before .before .before .before .before .before .before .before .before .before .before .before .before .before .before .before .before .before .before .before .loop .regs .s)) (c .before .before .before .before .before .before .before .copy-of-r .ensures (c .before .before .before .before .before .before .before .before .before .before .before .before .before .before .before .before .before .before .before .before .before .before .before .before .loop .rows))) (c .before .before .e-after-pop .ensures ∙ ap (eAfterPop (c .before .before .before .before .before .before .s-after-pop .result) (c .before .before .before .before .before .before .before .before .before .before .before .before .before .before .before .before .before .before .before .before .before .before .before .before .loop .regs .s) (c .before .before .before .before .before .before .before .before .before .before .before .before .before .before .before .before .before .before .before .before .before .before .before .before .loop .regs .e)) (c .before .before .before .copy-of-s .ensures (c .before .before .before .before .before .before .before .before .before .before .before .before .before .before .before .before .before .before .before .before .before .before .before .before .loop .rows)))) (told saysChecked (c .before .before .before .before .before .before .before .before .before .before .before .can-read2 .ensures) (c .before .before .before .before .before .before .before .before .before .enum-told7 .given .1)) refl refl (c .before .price4 .ensures .0) (c .counted4 .ensures .0), (c .before .before .before .before .before .before .before .before .before .before .before .before .before .before .before .before .before .before .before .before .before .before .before .before .loop .inv .1))
+loop-again-10 c = (goes-in (found (c .before .before .before .before .before .before .before .before .before .before .before .before .before .before .before .before .before)) (pop-acts (found (c .before .before .before .before .before .before .before .before .before .before .before .before .before .before .before .before .before)) (c .before .before .before .before .before .before .before .before .before .before .before .before .before .before .before .match3 .keys3) (c .before .before .before .before .before .before .before .before .before .s-after-pop .ensures ∙ ap (sAfterPop (c .before .before .before .before .before .before .before .before .before .before .before .before .before .before .before .before .before .before .before .before .before .before .before .before .before .before .before .loop .regs .r - 1) (c .before .before .before .before .before .before .before .before .before .before .before .before .before .before .before .before .before .before .before .before .before .before .before .before .before .before .before .loop .regs .s)) (c .before .before .before .before .before .before .before .before .before .before .copy-of-r .ensures (c .before .before .before .before .before .before .before .before .before .before .before .before .before .before .before .before .before .before .before .before .before .before .before .before .before .before .before .loop .rows))) (c .before .before .before .before .before .e-after-pop .ensures ∙ ap (eAfterPop (c .before .before .before .before .before .before .before .before .before .s-after-pop .result) (c .before .before .before .before .before .before .before .before .before .before .before .before .before .before .before .before .before .before .before .before .before .before .before .before .before .before .before .loop .regs .s) (c .before .before .before .before .before .before .before .before .before .before .before .before .before .before .before .before .before .before .before .before .before .before .before .before .before .before .before .loop .regs .e)) (c .before .before .before .before .before .before .copy-of-s .ensures (c .before .before .before .before .before .before .before .before .before .before .before .before .before .before .before .before .before .before .before .before .before .before .before .before .before .before .before .loop .rows)))) (told saysChecked (c .before .before .before .before .before .before .before .before .before .before .before .before .before .before .can-read2 .ensures) (c .before .before .before .before .before .before .before .before .before .before .before .before .enum-told7 .given .1)) refl refl (c .before .before .before .before .price4 .ensures .0) (c .before .before .before .counted4 .ensures .0) (c .before .before .before .before .before .before .before .before .before .before .before .before .before .before .before .before .before .before .before .before .before .before .before .before .before .before .before .loop .inv .1 .1 .1 .1 .0) (c .before .held .ensures) (c .parted .ensures .0) ((unheeded-now (noteIn (c .before .before .before .before .before .before .before .before .before .before .before .before .before .before .before .before .before .before .before .before .before .before .before .before .before .before .before .loop .rows) .aside .lines) (noteIn (c .before .before .before .before .before .before .before .before .before .before .before .before .before .before .before .before .before .before .before .before .before .before .before .before .before .before .before .before .before .args .rows .now) .aside .lines) (c .before .before .before .before .before .before .before .before .before .before .before .before .before .before .before .before .before .before .before .before .before .before .before .before .before .before .before .before .before .pre .unheeded)) (c .before .before .before .before .before .before .before .before .before .before .before .before .before .before .before .before .before .before .before .before .before .before .before .before .before .before .before .loop .inv .1 .1 .1 .1 .0) (c .before .before .before .before .before .before .before .before .before .before .before .before .before .before .before .before .before .before .before .before .before .before .before .before .before .before .before .loop .inv .1 .1 .1 .1 .1)), (c .before .before .before .before .before .before .before .before .before .before .before .before .before .before .before .before .before .before .before .before .before .before .before .before .before .before .before .loop .inv .1))
 
 can-catch-requires : tie.Need-can-catch-requires Inv-loop μ-loop
 can-catch-requires c κs = search needs
@@ -368,7 +377,7 @@ loop-less-12 : tie.Need-loop-less-12 Inv-loop μ-loop
 loop-less-12 c = omega (arith, c .counted5 .ensures .1)
 
 loop-again-12 : tie.Need-loop-again-12 Inv-loop μ-loop
-loop-again-12 c = (goes (found (c .before .before .before .before .before .before .before .before .before .before .before .before .before .before .before)) (catch-acts (found (c .before .before .before .before .before .before .before .before .before .before .before .before .before .before .before)) (c .before .before .before .before .before .before .before .before .before .before .before .before .before .match3 .keys4) (c .before .before .before .wrapping-add-u32 .ensures)) (told saysChecked (c .before .before .before .before .before .before .before .before .before .before .before .before .can-catch .ensures) (c .before .before .before .before .before .before .before .before .before .before .enum-told9 .given .1)) (held-there (caught-above (c .before .before .before .before .before .before .before .before .before .before .before .before .before .before .before .before .before .before .before .before .before .before .before .before .before .loop .regs .e) (c .before .before .before .before .before .before .before .before .before .before .before .before .before .before .before .before .before .before .before .before .before .before .before .before .before .loop .regs .s) (c .before .before .before .before .before .before .before .before .before .before .before .before .before .before .before .before .before .before .before .before .before .before .before .before .before .loop .regs .p - 1) (c .before .before .before .wrapping-add-u32 .result) (c .before .before .before .before .before .before .called .ensures (c .before .before .before .before .before .before .before .before .before .before .before .before .before .before .before .before .before .before .before .before .before .before .before .before .before .loop .inv .1 .1 .0)) (c .before .before .caught .ensures ((c .before .before .before .before .before .before .called .ensures (c .before .before .before .before .before .before .before .before .before .before .before .before .before .before .before .before .before .before .before .before .before .before .before .before .before .loop .inv .1 .1 .0)) .laid)))) refl (c .before .price5 .ensures .0) (c .counted5 .ensures .0), (c .before .before .before .before .before .before .before .before .before .before .before .before .before .before .before .before .before .before .before .before .before .before .before .before .before .loop .inv .1 .0, ((caught-above (c .before .before .before .before .before .before .before .before .before .before .before .before .before .before .before .before .before .before .before .before .before .before .before .before .before .loop .regs .e) (c .before .before .before .before .before .before .before .before .before .before .before .before .before .before .before .before .before .before .before .before .before .before .before .before .before .loop .regs .s) (c .before .before .before .before .before .before .before .before .before .before .before .before .before .before .before .before .before .before .before .before .before .before .before .before .before .loop .regs .p - 1) (c .before .before .before .wrapping-add-u32 .result) (c .before .before .before .before .before .before .called .ensures (c .before .before .before .before .before .before .before .before .before .before .before .before .before .before .before .before .before .before .before .before .before .before .before .before .before .loop .inv .1 .1 .0)) (c .before .before .caught .ensures ((c .before .before .before .before .before .before .called .ensures (c .before .before .before .before .before .before .before .before .before .before .before .before .before .before .before .before .before .before .before .before .before .before .before .before .before .loop .inv .1 .1 .0)) .laid))) .laid, ap (λ (n : Note). n .lost % 2 ^ 32) ((caught-above (c .before .before .before .before .before .before .before .before .before .before .before .before .before .before .before .before .before .before .before .before .before .before .before .before .before .loop .regs .e) (c .before .before .before .before .before .before .before .before .before .before .before .before .before .before .before .before .before .before .before .before .before .before .before .before .before .loop .regs .s) (c .before .before .before .before .before .before .before .before .before .before .before .before .before .before .before .before .before .before .before .before .before .before .before .before .before .loop .regs .p - 1) (c .before .before .before .wrapping-add-u32 .result) (c .before .before .before .before .before .before .called .ensures (c .before .before .before .before .before .before .before .before .before .before .before .before .before .before .before .before .before .before .before .before .before .before .before .before .before .loop .inv .1 .1 .0)) (c .before .before .caught .ensures ((c .before .before .before .before .before .before .called .ensures (c .before .before .before .before .before .before .before .before .before .before .before .before .before .before .before .before .before .before .before .before .before .before .before .before .before .loop .inv .1 .1 .0)) .laid))) .note-is) ∙ (c .before .before .before .before .before .before .before .before .before .before .before .before .before .before .before .before .before .before .before .before .before .before .before .before .before .loop .inv .1 .1 .1))))
+loop-again-12 c = (goes (found (c .before .before .before .before .before .before .before .before .before .before .before .before .before .before .before)) (catch-acts (found (c .before .before .before .before .before .before .before .before .before .before .before .before .before .before .before)) (c .before .before .before .before .before .before .before .before .before .before .before .before .before .match3 .keys4) (c .before .before .before .wrapping-add-u32 .ensures)) (told saysChecked (c .before .before .before .before .before .before .before .before .before .before .before .before .can-catch .ensures) (c .before .before .before .before .before .before .before .before .before .before .enum-told9 .given .1)) (held-there (caught-above (c .before .before .before .before .before .before .before .before .before .before .before .before .before .before .before .before .before .before .before .before .before .before .before .before .before .loop .regs .e) (c .before .before .before .before .before .before .before .before .before .before .before .before .before .before .before .before .before .before .before .before .before .before .before .before .before .loop .regs .s) (c .before .before .before .before .before .before .before .before .before .before .before .before .before .before .before .before .before .before .before .before .before .before .before .before .before .loop .regs .p - 1) (c .before .before .before .wrapping-add-u32 .result) (c .before .before .before .before .before .before .called .ensures (c .before .before .before .before .before .before .before .before .before .before .before .before .before .before .before .before .before .before .before .before .before .before .before .before .before .loop .inv .1 .1 .0)) (c .before .before .caught .ensures ((c .before .before .before .before .before .before .called .ensures (c .before .before .before .before .before .before .before .before .before .before .before .before .before .before .before .before .before .before .before .before .before .before .before .before .before .loop .inv .1 .1 .0)) .laid)))) refl (record { lines-same = ap (λ (n : Note). n .aside .lines) ((caught-above (c .before .before .before .before .before .before .before .before .before .before .before .before .before .before .before .before .before .before .before .before .before .before .before .before .before .loop .regs .e) (c .before .before .before .before .before .before .before .before .before .before .before .before .before .before .before .before .before .before .before .before .before .before .before .before .before .loop .regs .s) (c .before .before .before .before .before .before .before .before .before .before .before .before .before .before .before .before .before .before .before .before .before .before .before .before .before .loop .regs .p - 1) (c .before .before .before .wrapping-add-u32 .result) (c .before .before .before .before .before .before .called .ensures (c .before .before .before .before .before .before .before .before .before .before .before .before .before .before .before .before .before .before .before .before .before .before .before .before .before .loop .inv .1 .1 .0)) (c .before .before .caught .ensures ((c .before .before .before .before .before .before .called .ensures (c .before .before .before .before .before .before .before .before .before .before .before .before .before .before .before .before .before .before .before .before .before .before .before .before .before .loop .inv .1 .1 .0)) .laid))) .note-is); r-rises = omega arith; s-rises = omega arith }) (c .before .price5 .ensures .0) (c .counted5 .ensures .0), (c .before .before .before .before .before .before .before .before .before .before .before .before .before .before .before .before .before .before .before .before .before .before .before .before .before .loop .inv .1 .0, ((caught-above (c .before .before .before .before .before .before .before .before .before .before .before .before .before .before .before .before .before .before .before .before .before .before .before .before .before .loop .regs .e) (c .before .before .before .before .before .before .before .before .before .before .before .before .before .before .before .before .before .before .before .before .before .before .before .before .before .loop .regs .s) (c .before .before .before .before .before .before .before .before .before .before .before .before .before .before .before .before .before .before .before .before .before .before .before .before .before .loop .regs .p - 1) (c .before .before .before .wrapping-add-u32 .result) (c .before .before .before .before .before .before .called .ensures (c .before .before .before .before .before .before .before .before .before .before .before .before .before .before .before .before .before .before .before .before .before .before .before .before .before .loop .inv .1 .1 .0)) (c .before .before .caught .ensures ((c .before .before .before .before .before .before .called .ensures (c .before .before .before .before .before .before .before .before .before .before .before .before .before .before .before .before .before .before .before .before .before .before .before .before .before .loop .inv .1 .1 .0)) .laid))) .laid, (ap (λ (n : Note). n .lost % 2 ^ 32) ((caught-above (c .before .before .before .before .before .before .before .before .before .before .before .before .before .before .before .before .before .before .before .before .before .before .before .before .before .loop .regs .e) (c .before .before .before .before .before .before .before .before .before .before .before .before .before .before .before .before .before .before .before .before .before .before .before .before .before .loop .regs .s) (c .before .before .before .before .before .before .before .before .before .before .before .before .before .before .before .before .before .before .before .before .before .before .before .before .before .loop .regs .p - 1) (c .before .before .before .wrapping-add-u32 .result) (c .before .before .before .before .before .before .called .ensures (c .before .before .before .before .before .before .before .before .before .before .before .before .before .before .before .before .before .before .before .before .before .before .before .before .before .loop .inv .1 .1 .0)) (c .before .before .caught .ensures ((c .before .before .before .before .before .before .called .ensures (c .before .before .before .before .before .before .before .before .before .before .before .before .before .before .before .before .before .before .before .before .before .before .before .before .before .loop .inv .1 .1 .0)) .laid))) .note-is) ∙ (c .before .before .before .before .before .before .before .before .before .before .before .before .before .before .before .before .before .before .before .before .before .before .before .before .before .loop .inv .1 .1 .1 .0), ((ap (λ (n : Note). n .heeds) ((caught-above (c .before .before .before .before .before .before .before .before .before .before .before .before .before .before .before .before .before .before .before .before .before .before .before .before .before .loop .regs .e) (c .before .before .before .before .before .before .before .before .before .before .before .before .before .before .before .before .before .before .before .before .before .before .before .before .before .loop .regs .s) (c .before .before .before .before .before .before .before .before .before .before .before .before .before .before .before .before .before .before .before .before .before .before .before .before .before .loop .regs .p - 1) (c .before .before .before .wrapping-add-u32 .result) (c .before .before .before .before .before .before .called .ensures (c .before .before .before .before .before .before .before .before .before .before .before .before .before .before .before .before .before .before .before .before .before .before .before .before .before .loop .inv .1 .1 .0)) (c .before .before .caught .ensures ((c .before .before .before .before .before .before .called .ensures (c .before .before .before .before .before .before .before .before .before .before .before .before .before .before .before .before .before .before .before .before .before .before .before .before .before .loop .inv .1 .1 .0)) .laid))) .note-is) ∙ (c .before .before .before .before .before .before .before .before .before .before .before .before .before .before .before .before .before .before .before .before .before .before .before .before .before .loop .inv .1 .1 .1 .1 .0)), (ap (λ (n : Note). lowestDue (n .aside .lines)) ((caught-above (c .before .before .before .before .before .before .before .before .before .before .before .before .before .before .before .before .before .before .before .before .before .before .before .before .before .loop .regs .e) (c .before .before .before .before .before .before .before .before .before .before .before .before .before .before .before .before .before .before .before .before .before .before .before .before .before .loop .regs .s) (c .before .before .before .before .before .before .before .before .before .before .before .before .before .before .before .before .before .before .before .before .before .before .before .before .before .loop .regs .p - 1) (c .before .before .before .wrapping-add-u32 .result) (c .before .before .before .before .before .before .called .ensures (c .before .before .before .before .before .before .before .before .before .before .before .before .before .before .before .before .before .before .before .before .before .before .before .before .before .loop .inv .1 .1 .0)) (c .before .before .caught .ensures ((c .before .before .before .before .before .before .called .ensures (c .before .before .before .before .before .before .before .before .before .before .before .before .before .before .before .before .before .before .before .before .before .before .before .before .before .loop .inv .1 .1 .0)) .laid))) .note-is) ∙ (c .before .before .before .before .before .before .before .before .before .before .before .before .before .before .before .before .before .before .before .before .before .before .before .before .before .loop .inv .1 .1 .1 .1 .1)))))))
 
 price-requires-6 : tie.Need-price-requires-6 Inv-loop μ-loop
 price-requires-6 c κs = c .before .before .before .before .before .before .before .before .before .before .before .before .loop .inv .1 .0
@@ -376,11 +385,17 @@ price-requires-6 c κs = c .before .before .before .before .before .before .befo
 counted-requires-6 : tie.Need-counted-requires-6 Inv-loop μ-loop
 counted-requires-6 c κs = ((found (c .before .before .before)) .less, ((omega (arith, (c .before .before .before .before .before .before .before .before .before .before .before .before .before .loop .inv .0) .priced, (c .before .before .before .before .before .before .before .before .before .before .before .before .before .loop .inv .0) .limit, (c .before .before .before .before .before .before .before .before .before .before .before .before .before .loop .inv .0) .left-within, (found (c .before .before .before)) .less)), c .price6 .ensures .1))
 
+held-requires-2 : tie.Need-held-requires-2 Inv-loop μ-loop
+held-requires-2 c κs = search needs
+
+parted-requires-2 : tie.Need-parted-requires-2 Inv-loop μ-loop
+parted-requires-2 c κs = search needs
+
 loop-less-13 : tie.Need-loop-less-13 Inv-loop μ-loop
-loop-less-13 c = omega (arith, c .counted6 .ensures .1)
+loop-less-13 c = omega (arith, c .before .before .before .counted6 .ensures .1, c .parted2 .ensures .1)
 
 loop-again-13 : tie.Need-loop-again-13 Inv-loop μ-loop
-loop-again-13 c = (goes (found (c .before .before .before .before)) (reset-acts (found (c .before .before .before .before)) (c .before .before .match3 .keys5)) refl refl refl (c .before .price6 .ensures .0) (c .counted6 .ensures .0), (c .before .before .before .before .before .before .before .before .before .before .before .before .before .before .loop .inv .1))
+loop-again-13 c = (goes-in (found (c .before .before .before .before .before .before .before)) (reset-acts (found (c .before .before .before .before .before .before .before)) (c .before .before .before .before .before .match3 .keys5)) refl refl refl (c .before .before .before .before .price6 .ensures .0) (c .before .before .before .counted6 .ensures .0) (c .before .before .before .before .before .before .before .before .before .before .before .before .before .before .before .before .before .loop .inv .1 .1 .1 .1 .0) (c .before .held2 .ensures) (c .parted2 .ensures .0) ((unheeded-now (noteIn (c .before .before .before .before .before .before .before .before .before .before .before .before .before .before .before .before .before .loop .rows) .aside .lines) (noteIn (c .before .before .before .before .before .before .before .before .before .before .before .before .before .before .before .before .before .before .before .args .rows .now) .aside .lines) (c .before .before .before .before .before .before .before .before .before .before .before .before .before .before .before .before .before .before .before .pre .unheeded)) (c .before .before .before .before .before .before .before .before .before .before .before .before .before .before .before .before .before .loop .inv .1 .1 .1 .1 .0) (c .before .before .before .before .before .before .before .before .before .before .before .before .before .before .before .before .before .loop .inv .1 .1 .1 .1 .1)), (c .before .before .before .before .before .before .before .before .before .before .before .before .before .before .before .before .before .loop .inv .1))
 
 can-throw-requires : tie.Need-can-throw-requires Inv-loop μ-loop
 can-throw-requires c κs = search needs
@@ -413,7 +428,7 @@ loop-less-15 : tie.Need-loop-less-15 Inv-loop μ-loop
 loop-less-15 c = omega (arith, c .counted7 .ensures .1)
 
 loop-again-15 : tie.Need-loop-again-15 Inv-loop μ-loop
-loop-again-15 c = (goes (found (c .before .before .before .before .before .before .before .before .before .before)) (throw-acts (found (c .before .before .before .before .before .before .before .before .before .before)) (c .before .before .before .before .before .before .before .before .match3 .keys6)) (told saysThrown (c .before .before .before .before .before .before .can-throw .ensures) (c .before .before .before .before .thrown .given .1 ∙ ap thrown.Found (c .before .enum-told12 .given .1))) refl refl refl (c .counted7 .ensures .0), (c .before .before .before .before .before .before .before .before .before .before .before .before .before .before .before .before .before .before .before .before .loop .inv .1))
+loop-again-15 c = (goes (found (c .before .before .before .before .before .before .before .before .before .before)) (throw-acts (found (c .before .before .before .before .before .before .before .before .before .before)) (c .before .before .before .before .before .before .before .before .match3 .keys6)) (told saysThrown (c .before .before .before .before .before .before .can-throw .ensures) (c .before .before .before .before .thrown .given .1 ∙ ap thrown.Found (c .before .enum-told12 .given .1))) refl refl (record { lines-same = refl; r-rises = omega arith; s-rises = omega arith }) refl (c .counted7 .ensures .0), (c .before .before .before .before .before .before .before .before .before .before .before .before .before .before .before .before .before .before .before .before .loop .inv .1))
 
 enum-known-throw : tie.Need-enum-known-throw Inv-loop μ-loop
 enum-known-throw c = search needs
@@ -454,11 +469,17 @@ price-requires-7 c κs = c .before .before .before .before .before .before .befo
 counted-requires-8 : tie.Need-counted-requires-8 Inv-loop μ-loop
 counted-requires-8 c κs = ((found (c .before .before .before .before .before .before .before .before .before .before .before .before .before .before .before .before .before .before .before .before .before)) .less, ((omega (arith, (c .before .before .before .before .before .before .before .before .before .before .before .before .before .before .before .before .before .before .before .before .before .before .before .before .before .before .before .before .before .before .before .loop .inv .0) .priced, (c .before .before .before .before .before .before .before .before .before .before .before .before .before .before .before .before .before .before .before .before .before .before .before .before .before .before .before .before .before .before .before .loop .inv .0) .limit, (c .before .before .before .before .before .before .before .before .before .before .before .before .before .before .before .before .before .before .before .before .before .before .before .before .before .before .before .before .before .before .before .loop .inv .0) .left-within, (found (c .before .before .before .before .before .before .before .before .before .before .before .before .before .before .before .before .before .before .before .before .before)) .less)), omega arith))
 
+held-requires-3 : tie.Need-held-requires-3 Inv-loop μ-loop
+held-requires-3 c κs = search needs
+
+parted-requires-3 : tie.Need-parted-requires-3 Inv-loop μ-loop
+parted-requires-3 c κs = search needs
+
 loop-less-16 : tie.Need-loop-less-16 Inv-loop μ-loop
-loop-less-16 c = omega (arith, c .counted8 .ensures .1)
+loop-less-16 c = omega (arith, c .before .before .before .counted8 .ensures .1, c .parted3 .ensures .1)
 
 loop-again-16 : tie.Need-loop-again-16 Inv-loop μ-loop
-loop-again-16 c = (goes (found (c .before .before .before .before .before .before .before .before .before .before .before .before .before .before .before .before .before .before .before .before .before .before)) (throw-acts (found (c .before .before .before .before .before .before .before .before .before .before .before .before .before .before .before .before .before .before .before .before .before .before)) (c .before .before .before .before .before .before .before .before .before .before .before .before .before .before .before .before .before .before .before .before .match3 .keys6)) (told saysThrown (c .before .before .before .before .before .before .before .before .before .before .before .before .before .before .before .before .before .before .can-throw .ensures) (c .before .before .before .before .before .before .before .before .before .before .before .before .before .before .before .before .thrown .given .1 ∙ ap thrown.Found (c .before .before .before .before .before .before .before .before .before .before .before .before .before .throw .given .1))) (thrown-there (found (c .before .before .before .before .before .before .before .before .before .before .before .before .before .before .before .before .before .before .before .before .before .before)) (c .before .before .before .before .before .before .before .before .before .before .before .before .before .throw .given .0 .0) (c .before .before .before .before .before .before .before .before .copy-of-p .ensures (c .before .before .before .before .before .before .before .before .before .before .before .before .before .before .before .before .before .before .before .before .before .before .before .before .before .before .before .before .before .before .before .before .loop .rows)) (c .before .before .before .before .before .before .before .before .before .before .copy-of-s2 .ensures (c .before .before .before .before .before .before .before .before .before .before .before .before .before .before .before .before .before .before .before .before .before .before .before .before .before .before .before .before .before .before .before .before .loop .rows)) (c .before .before .copy-of-r2 .ensures (c .before .before .before .before .before .before .before .before .before .before .before .before .before .before .before .before .before .before .before .before .before .before .before .before .before .before .before .before .before .before .before .before .loop .rows)) (c .before .before .before .before .before .before .throw-address .ensures (c .before .before .before .before .before .before .before .before .before .before .before .before .before .before .before .before .before .before .before .before .before .before .before .before .before .before .before .before .before .before .before .before .loop .copies)) ∙ held-there (c .before .before .before .before .note .ensures (c .before .before .before .before .before .before .before .before .before .before .before .before .before .before .before .before .before .before .before .before .before .before .before .before .before .before .before .before .before .before .before .before .loop .copies) (c .before .before .before .before .before .before .before .before .before .before .before .before .before .before .before .before .before .before .before .before .before .before .before .before .before .before .before .before .before .before .before .before .loop .inv .1 .1 .0))) refl (c .before .price7 .ensures .0) (c .counted8 .ensures .0), (c .before .before .before .before .before .before .before .before .before .before .before .before .before .before .before .before .before .before .before .before .before .before .before .before .before .before .before .before .before .before .before .before .loop .inv .1 .0, ((c .before .before .before .before .note .ensures (c .before .before .before .before .before .before .before .before .before .before .before .before .before .before .before .before .before .before .before .before .before .before .before .before .before .before .before .before .before .before .before .before .loop .copies) (c .before .before .before .before .before .before .before .before .before .before .before .before .before .before .before .before .before .before .before .before .before .before .before .before .before .before .before .before .before .before .before .before .loop .inv .1 .1 .0)) .laid, ap (λ (n : Note). n .lost % 2 ^ 32) ((c .before .before .before .before .note .ensures (c .before .before .before .before .before .before .before .before .before .before .before .before .before .before .before .before .before .before .before .before .before .before .before .before .before .before .before .before .before .before .before .before .loop .copies) (c .before .before .before .before .before .before .before .before .before .before .before .before .before .before .before .before .before .before .before .before .before .before .before .before .before .before .before .before .before .before .before .before .loop .inv .1 .1 .0)) .note-is) ∙ (c .before .before .before .before .before .before .before .before .before .before .before .before .before .before .before .before .before .before .before .before .before .before .before .before .before .before .before .before .before .before .before .before .loop .inv .1 .1 .1))))
+loop-again-16 c = (goes-in (found (c .before .before .before .before .before .before .before .before .before .before .before .before .before .before .before .before .before .before .before .before .before .before .before .before .before)) (throw-acts (found (c .before .before .before .before .before .before .before .before .before .before .before .before .before .before .before .before .before .before .before .before .before .before .before .before .before)) (c .before .before .before .before .before .before .before .before .before .before .before .before .before .before .before .before .before .before .before .before .before .before .before .match3 .keys6)) (told saysThrown (c .before .before .before .before .before .before .before .before .before .before .before .before .before .before .before .before .before .before .before .before .before .can-throw .ensures) (c .before .before .before .before .before .before .before .before .before .before .before .before .before .before .before .before .before .before .before .thrown .given .1 ∙ ap thrown.Found (c .before .before .before .before .before .before .before .before .before .before .before .before .before .before .before .before .throw .given .1))) (thrown-there (found (c .before .before .before .before .before .before .before .before .before .before .before .before .before .before .before .before .before .before .before .before .before .before .before .before .before)) (c .before .before .before .before .before .before .before .before .before .before .before .before .before .before .before .before .throw .given .0 .0) (c .before .before .before .before .before .before .before .before .before .before .before .copy-of-p .ensures (c .before .before .before .before .before .before .before .before .before .before .before .before .before .before .before .before .before .before .before .before .before .before .before .before .before .before .before .before .before .before .before .before .before .before .before .loop .rows)) (c .before .before .before .before .before .before .before .before .before .before .before .before .before .copy-of-s2 .ensures (c .before .before .before .before .before .before .before .before .before .before .before .before .before .before .before .before .before .before .before .before .before .before .before .before .before .before .before .before .before .before .before .before .before .before .before .loop .rows)) (c .before .before .before .before .before .copy-of-r2 .ensures (c .before .before .before .before .before .before .before .before .before .before .before .before .before .before .before .before .before .before .before .before .before .before .before .before .before .before .before .before .before .before .before .before .before .before .before .loop .rows)) (c .before .before .before .before .before .before .before .before .before .throw-address .ensures (c .before .before .before .before .before .before .before .before .before .before .before .before .before .before .before .before .before .before .before .before .before .before .before .before .before .before .before .before .before .before .before .before .before .before .before .loop .copies)) ∙ held-there (c .before .before .before .before .before .before .before .note .ensures (c .before .before .before .before .before .before .before .before .before .before .before .before .before .before .before .before .before .before .before .before .before .before .before .before .before .before .before .before .before .before .before .before .before .before .before .loop .copies) (c .before .before .before .before .before .before .before .before .before .before .before .before .before .before .before .before .before .before .before .before .before .before .before .before .before .before .before .before .before .before .before .before .before .before .before .loop .inv .1 .1 .0))) refl (c .before .before .before .before .price7 .ensures .0) (c .before .before .before .counted8 .ensures .0) (ap (λ (n : Note). n .heeds) ((c .before .before .before .before .before .before .before .note .ensures (c .before .before .before .before .before .before .before .before .before .before .before .before .before .before .before .before .before .before .before .before .before .before .before .before .before .before .before .before .before .before .before .before .before .before .before .loop .copies) (c .before .before .before .before .before .before .before .before .before .before .before .before .before .before .before .before .before .before .before .before .before .before .before .before .before .before .before .before .before .before .before .before .before .before .before .loop .inv .1 .1 .0)) .note-is) ∙ (c .before .before .before .before .before .before .before .before .before .before .before .before .before .before .before .before .before .before .before .before .before .before .before .before .before .before .before .before .before .before .before .before .before .before .before .loop .inv .1 .1 .1 .1 .0)) (c .before .held3 .ensures) (c .parted3 .ensures .0) ((unheeded-now (noteIn (c .before .before .before .before .before .before .before .note .last .0) .aside .lines) (noteIn (c .before .before .before .before .before .before .before .before .before .before .before .before .before .before .before .before .before .before .before .before .before .before .before .before .before .before .before .before .before .before .before .before .before .before .before .before .before .args .rows .now) .aside .lines) (c .before .before .before .before .before .before .before .before .before .before .before .before .before .before .before .before .before .before .before .before .before .before .before .before .before .before .before .before .before .before .before .before .before .before .before .before .before .pre .unheeded)) (ap (λ (n : Note). n .heeds) ((c .before .before .before .before .before .before .before .note .ensures (c .before .before .before .before .before .before .before .before .before .before .before .before .before .before .before .before .before .before .before .before .before .before .before .before .before .before .before .before .before .before .before .before .before .before .before .loop .copies) (c .before .before .before .before .before .before .before .before .before .before .before .before .before .before .before .before .before .before .before .before .before .before .before .before .before .before .before .before .before .before .before .before .before .before .before .loop .inv .1 .1 .0)) .note-is) ∙ (c .before .before .before .before .before .before .before .before .before .before .before .before .before .before .before .before .before .before .before .before .before .before .before .before .before .before .before .before .before .before .before .before .before .before .before .loop .inv .1 .1 .1 .1 .0)) (ap (λ (n : Note). lowestDue (n .aside .lines)) ((c .before .before .before .before .before .before .before .note .ensures (c .before .before .before .before .before .before .before .before .before .before .before .before .before .before .before .before .before .before .before .before .before .before .before .before .before .before .before .before .before .before .before .before .before .before .before .loop .copies) (c .before .before .before .before .before .before .before .before .before .before .before .before .before .before .before .before .before .before .before .before .before .before .before .before .before .before .before .before .before .before .before .before .before .before .before .loop .inv .1 .1 .0)) .note-is) ∙ (c .before .before .before .before .before .before .before .before .before .before .before .before .before .before .before .before .before .before .before .before .before .before .before .before .before .before .before .before .before .before .before .before .before .before .before .loop .inv .1 .1 .1 .1 .1))), (c .before .before .before .before .before .before .before .before .before .before .before .before .before .before .before .before .before .before .before .before .before .before .before .before .before .before .before .before .before .before .before .before .before .before .before .loop .inv .1 .0, ((c .before .before .before .before .before .before .before .note .ensures (c .before .before .before .before .before .before .before .before .before .before .before .before .before .before .before .before .before .before .before .before .before .before .before .before .before .before .before .before .before .before .before .before .before .before .before .loop .copies) (c .before .before .before .before .before .before .before .before .before .before .before .before .before .before .before .before .before .before .before .before .before .before .before .before .before .before .before .before .before .before .before .before .before .before .before .loop .inv .1 .1 .0)) .laid, (ap (λ (n : Note). n .lost % 2 ^ 32) ((c .before .before .before .before .before .before .before .note .ensures (c .before .before .before .before .before .before .before .before .before .before .before .before .before .before .before .before .before .before .before .before .before .before .before .before .before .before .before .before .before .before .before .before .before .before .before .loop .copies) (c .before .before .before .before .before .before .before .before .before .before .before .before .before .before .before .before .before .before .before .before .before .before .before .before .before .before .before .before .before .before .before .before .before .before .before .loop .inv .1 .1 .0)) .note-is) ∙ (c .before .before .before .before .before .before .before .before .before .before .before .before .before .before .before .before .before .before .before .before .before .before .before .before .before .before .before .before .before .before .before .before .before .before .before .loop .inv .1 .1 .1 .0), ((ap (λ (n : Note). n .heeds) ((c .before .before .before .before .before .before .before .note .ensures (c .before .before .before .before .before .before .before .before .before .before .before .before .before .before .before .before .before .before .before .before .before .before .before .before .before .before .before .before .before .before .before .before .before .before .before .loop .copies) (c .before .before .before .before .before .before .before .before .before .before .before .before .before .before .before .before .before .before .before .before .before .before .before .before .before .before .before .before .before .before .before .before .before .before .before .loop .inv .1 .1 .0)) .note-is) ∙ (c .before .before .before .before .before .before .before .before .before .before .before .before .before .before .before .before .before .before .before .before .before .before .before .before .before .before .before .before .before .before .before .before .before .before .before .loop .inv .1 .1 .1 .1 .0)), (ap (λ (n : Note). lowestDue (n .aside .lines)) ((c .before .before .before .before .before .before .before .note .ensures (c .before .before .before .before .before .before .before .before .before .before .before .before .before .before .before .before .before .before .before .before .before .before .before .before .before .before .before .before .before .before .before .before .before .before .before .loop .copies) (c .before .before .before .before .before .before .before .before .before .before .before .before .before .before .before .before .before .before .before .before .before .before .before .before .before .before .before .before .before .before .before .before .before .before .before .loop .inv .1 .1 .0)) .note-is) ∙ (c .before .before .before .before .before .before .before .before .before .before .before .before .before .before .before .before .before .before .before .before .before .before .before .before .before .before .before .before .before .before .before .before .before .before .before .loop .inv .1 .1 .1 .1 .1)))))))
 
 reach-requires : tie.Need-reach-requires Inv-loop μ-loop
 reach-requires c κs = (omega arith, ((c .before .before .before .before .before .before .before .before .before .before .before .before .before .loop .inv .0) .p-within, c .before .before .before .before .before .before .before .before .before .before .before .before .before .before .before .pre .bounded .shared-within))
@@ -503,7 +524,7 @@ loop-less-18 : tie.Need-loop-less-18 Inv-loop μ-loop
 loop-less-18 c = omega (arith, c .counted9 .ensures .1)
 
 loop-again-18 : tie.Need-loop-again-18 Inv-loop μ-loop
-loop-again-18 c = (goes (found (c .before .before .before .before .before .before .before .before .before .before .before .before .before .before)) (fetch-acts (found (c .before .before .before .before .before .before .before .before .before .before .before .before .before .before)) (c .before .before .before .before .before .before .before .before .before .before .before .before .match3 .keys7)) (told saysReached (c .before .before .before .before .before .before .before .before .before .before .reach .ensures .0) (c .before .before .before .before .before .before .before .before .reached .given .1 ∙ ap reached.At (c .before .before .before .before .before .spot .given .1))) (ap (fetchedAs (found (c .before .before .before .before .before .before .before .before .before .before .before .before .before .before))) (sym (c .before .before .read-number .ensures))) refl (c .before .price8 .ensures .0) (c .counted9 .ensures .0), (c .before .before .before .before .before .before .before .before .before .before .before .before .before .before .before .before .before .before .before .before .before .before .before .before .loop .inv .1))
+loop-again-18 c = (goes (found (c .before .before .before .before .before .before .before .before .before .before .before .before .before .before)) (fetch-acts (found (c .before .before .before .before .before .before .before .before .before .before .before .before .before .before)) (c .before .before .before .before .before .before .before .before .before .before .before .before .match3 .keys7)) (told saysReached (c .before .before .before .before .before .before .before .before .before .before .reach .ensures .0) (c .before .before .before .before .before .before .before .before .reached .given .1 ∙ ap reached.At (c .before .before .before .before .before .spot .given .1))) (ap (fetchedAs (found (c .before .before .before .before .before .before .before .before .before .before .before .before .before .before))) (sym (c .before .before .read-number .ensures))) refl (record { lines-same = refl; r-rises = omega arith; s-rises = omega arith }) (c .before .price8 .ensures .0) (c .counted9 .ensures .0), (c .before .before .before .before .before .before .before .before .before .before .before .before .before .before .before .before .before .before .before .before .before .before .before .before .loop .inv .1))
 
 enum-known-spot-2 : tie.Need-enum-known-spot-2 Inv-loop μ-loop
 enum-known-spot-2 c = search needs
@@ -530,7 +551,7 @@ loop-less-19 : tie.Need-loop-less-19 Inv-loop μ-loop
 loop-less-19 c = omega (arith, c .counted10 .ensures .1)
 
 loop-again-19 : tie.Need-loop-again-19 Inv-loop μ-loop
-loop-again-19 c = (goes (found (c .before .before .before .before .before .before .before .before .before .before .before .before .before .before)) (fetch-acts (found (c .before .before .before .before .before .before .before .before .before .before .before .before .before .before)) (c .before .before .before .before .before .before .before .before .before .before .before .before .match3 .keys7)) (told saysReached (c .before .before .before .before .before .before .before .before .before .before .reach .ensures .0) (c .before .before .before .before .before .before .before .before .reached .given .1 ∙ ap reached.At (c .before .before .before .before .before .spot2 .given .1))) (ap (fetchedAs (found (c .before .before .before .before .before .before .before .before .before .before .before .before .before .before))) (sym (c .before .before .read-number2 .ensures))) refl (c .before .price9 .ensures .0) (c .counted10 .ensures .0), (c .before .before .before .before .before .before .before .before .before .before .before .before .before .before .before .before .before .before .before .before .before .before .before .before .loop .inv .1))
+loop-again-19 c = (goes (found (c .before .before .before .before .before .before .before .before .before .before .before .before .before .before)) (fetch-acts (found (c .before .before .before .before .before .before .before .before .before .before .before .before .before .before)) (c .before .before .before .before .before .before .before .before .before .before .before .before .match3 .keys7)) (told saysReached (c .before .before .before .before .before .before .before .before .before .before .reach .ensures .0) (c .before .before .before .before .before .before .before .before .reached .given .1 ∙ ap reached.At (c .before .before .before .before .before .spot2 .given .1))) (ap (fetchedAs (found (c .before .before .before .before .before .before .before .before .before .before .before .before .before .before))) (sym (c .before .before .read-number2 .ensures))) refl (record { lines-same = refl; r-rises = omega arith; s-rises = omega arith }) (c .before .price9 .ensures .0) (c .counted10 .ensures .0), (c .before .before .before .before .before .before .before .before .before .before .before .before .before .before .before .before .before .before .before .before .before .before .before .before .loop .inv .1))
 
 enum-known-spot-3 : tie.Need-enum-known-spot-3 Inv-loop μ-loop
 enum-known-spot-3 c = search needs
@@ -557,7 +578,7 @@ loop-less-20 : tie.Need-loop-less-20 Inv-loop μ-loop
 loop-less-20 c = omega (arith, c .counted11 .ensures .1)
 
 loop-again-20 : tie.Need-loop-again-20 Inv-loop μ-loop
-loop-again-20 c = (goes (found (c .before .before .before .before .before .before .before .before .before .before .before .before .before .before)) (fetch-acts (found (c .before .before .before .before .before .before .before .before .before .before .before .before .before .before)) (c .before .before .before .before .before .before .before .before .before .before .before .before .match3 .keys7)) (told saysReached (c .before .before .before .before .before .before .before .before .before .before .reach .ensures .0) (c .before .before .before .before .before .before .before .before .reached .given .1 ∙ ap reached.At (c .before .before .before .before .before .spot3 .given .1))) (fetched-whole (found (c .before .before .before .before .before .before .before .before .before .before .before .before .before .before)) (widthOf (c .before .before .before .before .before .before .before .before .before .before .before .before .before .before .before .fetched .given .0 .0)) (4 * c .before .before .before .before .before .spot3 .given .0 .0) ((spot-within (c .before .before .before .before .before .before .before .before .before .before .before .before .before .before .before .before .before .before .before .before .before .before .before .before .before .before .args .reach) (widthOf (c .before .before .before .before .before .before .before .before .before .before .before .before .before .before .before .fetched .given .0 .0)) (c .before .before .before .before .before .before .before .before .before .before .reach .ensures .1) (c .before .before .before .before .before .before .before .before .reached .given .1 ∙ ap reached.At (c .before .before .before .before .before .spot3 .given .1))) .0) (c .before .before .local .ensures (c .before .before .before .before .before .before .before .before .before .before .before .before .before .before .before .before .before .before .before .before .before .before .before .before .loop .copies) (c .before .before .before .before .before .before .before .before .before .before .before .before .before .before .before .before .before .before .before .before .before .before .before .before .loop .regs .e) (omega (arith, (c .before .before .before .before .before .before .before .before .before .before .before .before .before .before .before .before .before .before .before .before .before .before .before .before .loop .inv .0) .e-within)) (c .before .before .before .before .before .before .before .before .before .before .before .before .before .before .before .before .before .before .before .before .before .before .before .before .loop .inv .1 .1 .0))) refl (c .before .price10 .ensures .0 ∙ ap cyclesOf (sym (long-fetch (c .before .before .before .before .before .before .before .before .before .before .before .before .before .before .before .fetched .given .0 .0) (c .before .before .before .before .before .before .before .before .before .before .before .before .match3 .keys7) ((spot-within (c .before .before .before .before .before .before .before .before .before .before .before .before .before .before .before .before .before .before .before .before .before .before .before .before .before .before .args .reach) (widthOf (c .before .before .before .before .before .before .before .before .before .before .before .before .before .before .before .fetched .given .0 .0)) (c .before .before .before .before .before .before .before .before .before .before .reach .ensures .1) (c .before .before .before .before .before .before .before .before .reached .given .1 ∙ ap reached.At (c .before .before .before .before .before .spot3 .given .1))) .0)))) (c .counted11 .ensures .0), (c .before .before .before .before .before .before .before .before .before .before .before .before .before .before .before .before .before .before .before .before .before .before .before .before .loop .inv .1))
+loop-again-20 c = (goes (found (c .before .before .before .before .before .before .before .before .before .before .before .before .before .before)) (fetch-acts (found (c .before .before .before .before .before .before .before .before .before .before .before .before .before .before)) (c .before .before .before .before .before .before .before .before .before .before .before .before .match3 .keys7)) (told saysReached (c .before .before .before .before .before .before .before .before .before .before .reach .ensures .0) (c .before .before .before .before .before .before .before .before .reached .given .1 ∙ ap reached.At (c .before .before .before .before .before .spot3 .given .1))) (fetched-whole (found (c .before .before .before .before .before .before .before .before .before .before .before .before .before .before)) (widthOf (c .before .before .before .before .before .before .before .before .before .before .before .before .before .before .before .fetched .given .0 .0)) (4 * c .before .before .before .before .before .spot3 .given .0 .0) ((spot-within (c .before .before .before .before .before .before .before .before .before .before .before .before .before .before .before .before .before .before .before .before .before .before .before .before .before .before .args .reach) (widthOf (c .before .before .before .before .before .before .before .before .before .before .before .before .before .before .before .fetched .given .0 .0)) (c .before .before .before .before .before .before .before .before .before .before .reach .ensures .1) (c .before .before .before .before .before .before .before .before .reached .given .1 ∙ ap reached.At (c .before .before .before .before .before .spot3 .given .1))) .0) (c .before .before .local .ensures (c .before .before .before .before .before .before .before .before .before .before .before .before .before .before .before .before .before .before .before .before .before .before .before .before .loop .copies) (c .before .before .before .before .before .before .before .before .before .before .before .before .before .before .before .before .before .before .before .before .before .before .before .before .loop .regs .e) (omega (arith, (c .before .before .before .before .before .before .before .before .before .before .before .before .before .before .before .before .before .before .before .before .before .before .before .before .loop .inv .0) .e-within)) (c .before .before .before .before .before .before .before .before .before .before .before .before .before .before .before .before .before .before .before .before .before .before .before .before .loop .inv .1 .1 .0))) refl (record { lines-same = refl; r-rises = omega arith; s-rises = omega arith }) (c .before .price10 .ensures .0 ∙ ap cyclesOf (sym (long-fetch (c .before .before .before .before .before .before .before .before .before .before .before .before .before .before .before .fetched .given .0 .0) (c .before .before .before .before .before .before .before .before .before .before .before .before .match3 .keys7) ((spot-within (c .before .before .before .before .before .before .before .before .before .before .before .before .before .before .before .before .before .before .before .before .before .before .before .before .before .before .args .reach) (widthOf (c .before .before .before .before .before .before .before .before .before .before .before .before .before .before .before .fetched .given .0 .0)) (c .before .before .before .before .before .before .before .before .before .before .reach .ensures .1) (c .before .before .before .before .before .before .before .before .reached .given .1 ∙ ap reached.At (c .before .before .before .before .before .spot3 .given .1))) .0)))) (c .counted11 .ensures .0), (c .before .before .before .before .before .before .before .before .before .before .before .before .before .before .before .before .before .before .before .before .before .before .before .before .loop .inv .1))
 
 enum-known-spot-4 : tie.Need-enum-known-spot-4 Inv-loop μ-loop
 enum-known-spot-4 c = search needs
@@ -584,7 +605,7 @@ loop-less-21 : tie.Need-loop-less-21 Inv-loop μ-loop
 loop-less-21 c = omega (arith, c .counted12 .ensures .1)
 
 loop-again-21 : tie.Need-loop-again-21 Inv-loop μ-loop
-loop-again-21 c = (goes (found (c .before .before .before .before .before .before .before .before .before .before .before .before .before .before)) (fetch-acts (found (c .before .before .before .before .before .before .before .before .before .before .before .before .before .before)) (c .before .before .before .before .before .before .before .before .before .before .before .before .match3 .keys7)) (told saysReached (c .before .before .before .before .before .before .before .before .before .before .reach .ensures .0) (c .before .before .before .before .before .before .before .before .reached .given .1 ∙ ap reached.At (c .before .before .before .before .before .spot4 .given .1))) (fetched-whole (found (c .before .before .before .before .before .before .before .before .before .before .before .before .before .before)) (widthOf (c .before .before .before .before .before .before .before .before .before .before .before .before .before .before .before .fetched .given .0 .0)) (4 * (localsCount + c .before .before .before .before .before .spot4 .given .0 .0)) ((spot-within (c .before .before .before .before .before .before .before .before .before .before .before .before .before .before .before .before .before .before .before .before .before .before .before .before .before .before .args .reach) (widthOf (c .before .before .before .before .before .before .before .before .before .before .before .before .before .before .before .fetched .given .0 .0)) (c .before .before .before .before .before .before .before .before .before .before .reach .ensures .1) (c .before .before .before .before .before .before .before .before .reached .given .1 ∙ ap reached.At (c .before .before .before .before .before .spot4 .given .1))) .0) (c .before .before .cell .ensures (c .before .before .before .before .before .before .before .before .before .before .before .before .before .before .before .before .before .before .before .before .before .before .before .before .loop .copies) (c .before .before .before .before .before .before .before .before .before .before .before .before .before .before .before .before .before .before .before .before .before .before .before .before .loop .regs .s) (omega (arith, (c .before .before .before .before .before .before .before .before .before .before .before .before .before .before .before .before .before .before .before .before .before .before .before .before .loop .inv .0) .s-within)) (c .before .before .before .before .before .before .before .before .before .before .before .before .before .before .before .before .before .before .before .before .before .before .before .before .loop .inv .1 .1 .0))) refl (c .before .price11 .ensures .0 ∙ ap cyclesOf (sym (long-fetch (c .before .before .before .before .before .before .before .before .before .before .before .before .before .before .before .fetched .given .0 .0) (c .before .before .before .before .before .before .before .before .before .before .before .before .match3 .keys7) ((spot-within (c .before .before .before .before .before .before .before .before .before .before .before .before .before .before .before .before .before .before .before .before .before .before .before .before .before .before .args .reach) (widthOf (c .before .before .before .before .before .before .before .before .before .before .before .before .before .before .before .fetched .given .0 .0)) (c .before .before .before .before .before .before .before .before .before .before .reach .ensures .1) (c .before .before .before .before .before .before .before .before .reached .given .1 ∙ ap reached.At (c .before .before .before .before .before .spot4 .given .1))) .0)))) (c .counted12 .ensures .0), (c .before .before .before .before .before .before .before .before .before .before .before .before .before .before .before .before .before .before .before .before .before .before .before .before .loop .inv .1))
+loop-again-21 c = (goes (found (c .before .before .before .before .before .before .before .before .before .before .before .before .before .before)) (fetch-acts (found (c .before .before .before .before .before .before .before .before .before .before .before .before .before .before)) (c .before .before .before .before .before .before .before .before .before .before .before .before .match3 .keys7)) (told saysReached (c .before .before .before .before .before .before .before .before .before .before .reach .ensures .0) (c .before .before .before .before .before .before .before .before .reached .given .1 ∙ ap reached.At (c .before .before .before .before .before .spot4 .given .1))) (fetched-whole (found (c .before .before .before .before .before .before .before .before .before .before .before .before .before .before)) (widthOf (c .before .before .before .before .before .before .before .before .before .before .before .before .before .before .before .fetched .given .0 .0)) (4 * (localsCount + c .before .before .before .before .before .spot4 .given .0 .0)) ((spot-within (c .before .before .before .before .before .before .before .before .before .before .before .before .before .before .before .before .before .before .before .before .before .before .before .before .before .before .args .reach) (widthOf (c .before .before .before .before .before .before .before .before .before .before .before .before .before .before .before .fetched .given .0 .0)) (c .before .before .before .before .before .before .before .before .before .before .reach .ensures .1) (c .before .before .before .before .before .before .before .before .reached .given .1 ∙ ap reached.At (c .before .before .before .before .before .spot4 .given .1))) .0) (c .before .before .cell .ensures (c .before .before .before .before .before .before .before .before .before .before .before .before .before .before .before .before .before .before .before .before .before .before .before .before .loop .copies) (c .before .before .before .before .before .before .before .before .before .before .before .before .before .before .before .before .before .before .before .before .before .before .before .before .loop .regs .s) (omega (arith, (c .before .before .before .before .before .before .before .before .before .before .before .before .before .before .before .before .before .before .before .before .before .before .before .before .loop .inv .0) .s-within)) (c .before .before .before .before .before .before .before .before .before .before .before .before .before .before .before .before .before .before .before .before .before .before .before .before .loop .inv .1 .1 .0))) refl (record { lines-same = refl; r-rises = omega arith; s-rises = omega arith }) (c .before .price11 .ensures .0 ∙ ap cyclesOf (sym (long-fetch (c .before .before .before .before .before .before .before .before .before .before .before .before .before .before .before .fetched .given .0 .0) (c .before .before .before .before .before .before .before .before .before .before .before .before .match3 .keys7) ((spot-within (c .before .before .before .before .before .before .before .before .before .before .before .before .before .before .before .before .before .before .before .before .before .before .before .before .before .before .args .reach) (widthOf (c .before .before .before .before .before .before .before .before .before .before .before .before .before .before .before .fetched .given .0 .0)) (c .before .before .before .before .before .before .before .before .before .before .reach .ensures .1) (c .before .before .before .before .before .before .before .before .reached .given .1 ∙ ap reached.At (c .before .before .before .before .before .spot4 .given .1))) .0)))) (c .counted12 .ensures .0), (c .before .before .before .before .before .before .before .before .before .before .before .before .before .before .before .before .before .before .before .before .before .before .before .before .loop .inv .1))
 
 enum-known-spot-5 : tie.Need-enum-known-spot-5 Inv-loop μ-loop
 enum-known-spot-5 c = search needs
@@ -611,7 +632,7 @@ loop-less-22 : tie.Need-loop-less-22 Inv-loop μ-loop
 loop-less-22 c = omega (arith, c .counted13 .ensures .1)
 
 loop-again-22 : tie.Need-loop-again-22 Inv-loop μ-loop
-loop-again-22 c = (goes (found (c .before .before .before .before .before .before .before .before .before .before .before .before .before .before)) (fetch-acts (found (c .before .before .before .before .before .before .before .before .before .before .before .before .before .before)) (c .before .before .before .before .before .before .before .before .before .before .before .before .match3 .keys7)) (told saysReached (c .before .before .before .before .before .before .before .before .before .before .reach .ensures .0) (c .before .before .before .before .before .before .before .before .reached .given .1 ∙ ap reached.At (c .before .before .before .before .before .spot5 .given .1))) (ap (fetchedAs (found (c .before .before .before .before .before .before .before .before .before .before .before .before .before .before))) (sym (c .before .before .read-in-view .ensures (c .before .before .before .before .before .before .before .before .before .before .before .before .before .before .before .before .before .before .before .before .before .before .before .before .loop .copies) (c .before .before .before .before .before .before .before .before .before .before .before .before .before .before .before .before .before .before .before .before .before .before .before .before .loop .inv .1 .1 .0)))) refl (c .before .price12 .ensures .0) (c .counted13 .ensures .0), (c .before .before .before .before .before .before .before .before .before .before .before .before .before .before .before .before .before .before .before .before .before .before .before .before .loop .inv .1))
+loop-again-22 c = (goes (found (c .before .before .before .before .before .before .before .before .before .before .before .before .before .before)) (fetch-acts (found (c .before .before .before .before .before .before .before .before .before .before .before .before .before .before)) (c .before .before .before .before .before .before .before .before .before .before .before .before .match3 .keys7)) (told saysReached (c .before .before .before .before .before .before .before .before .before .before .reach .ensures .0) (c .before .before .before .before .before .before .before .before .reached .given .1 ∙ ap reached.At (c .before .before .before .before .before .spot5 .given .1))) (ap (fetchedAs (found (c .before .before .before .before .before .before .before .before .before .before .before .before .before .before))) (sym (c .before .before .read-in-view .ensures (c .before .before .before .before .before .before .before .before .before .before .before .before .before .before .before .before .before .before .before .before .before .before .before .before .loop .copies) (c .before .before .before .before .before .before .before .before .before .before .before .before .before .before .before .before .before .before .before .before .before .before .before .before .loop .inv .1 .1 .0)))) refl (record { lines-same = refl; r-rises = omega arith; s-rises = omega arith }) (c .before .price12 .ensures .0) (c .counted13 .ensures .0), (c .before .before .before .before .before .before .before .before .before .before .before .before .before .before .before .before .before .before .before .before .before .before .before .before .loop .inv .1))
 
 reach-requires-2 : tie.Need-reach-requires-2 Inv-loop μ-loop
 reach-requires-2 c κs = (omega arith, ((c .before .before .before .before .before .before .before .before .before .before .before .before .before .loop .inv .0) .p-within, c .before .before .before .before .before .before .before .before .before .before .before .before .before .before .before .pre .bounded .shared-within))
@@ -662,7 +683,7 @@ loop-less-24 : tie.Need-loop-less-24 Inv-loop μ-loop
 loop-less-24 c = omega (arith, c .counted14 .ensures .1)
 
 loop-again-24 : tie.Need-loop-again-24 Inv-loop μ-loop
-loop-again-24 c = (goes (found (c .before .before .before .before .before .before .before .before .before .before .before .before .before .before .before .before .before .before .before)) (store-acts (found (c .before .before .before .before .before .before .before .before .before .before .before .before .before .before .before .before .before .before .before)) (inl (c .before .before .before .before .before .before .before .before .before .before .before .before .before .before .before .before .before .match3 .keys8))) (told saysReached (c .before .before .before .before .before .before .before .before .before .before .before .before .before .before .before .reach2 .ensures .0) (c .before .before .before .before .before .before .before .before .before .before .before .before .before .reached2 .given .1 ∙ ap reached.At (c .before .before .before .before .before .before .before .before .before .before .spot6 .given .1))) (written-there (found (c .before .before .before .before .before .before .before .before .before .before .before .before .before .before .before .before .before .before .before)) (widthOf (c .before .before .before .before .before .before .before .before .before .before .before .before .before .before .before .before .before .before .before .before .fetched .given .0 .0)) (c .before .before .before .before .before .before .before .before .before .before .spot6 .given .0 .0) (c .before .before .before .before .before .before .store-number .ensures .written) ∙ held-there (c .before .before .lose .ensures (c .before .before .before .before .before .before .before .before .before .before .before .before .before .before .before .before .before .before .before .before .before .before .before .before .before .before .before .before .before .loop .copies) (c .before .before .before .before .before .before .before .before .before .before .before .before .before .before .before .before .before .before .before .before .before .before .before .before .before .before .before .before .before .loop .inv .1 .1 .0))) refl (c .before .price13 .ensures .0) (c .counted14 .ensures .0), (c .before .before .before .before .before .before .before .before .before .before .before .before .before .before .before .before .before .before .before .before .before .before .before .before .before .before .before .before .before .loop .inv .1 .0, ((c .before .before .lose .ensures (c .before .before .before .before .before .before .before .before .before .before .before .before .before .before .before .before .before .before .before .before .before .before .before .before .before .before .before .before .before .loop .copies) (c .before .before .before .before .before .before .before .before .before .before .before .before .before .before .before .before .before .before .before .before .before .before .before .before .before .before .before .before .before .loop .inv .1 .1 .0)) .laid, (stored-loses (size (widthOf (c .before .before .before .before .before .before .before .before .before .before .before .before .before .before .before .before .before .before .before .before .fetched .given .0 .0))) (getD (c .before .before .before .before .before .before .before .before .before .before .before .before .before .before .before .before .before .before .before .before .before .before .before .before .before .before .before .before .before .loop .cells) (c .before .before .before .before .before .before .before .before .before .before .before .before .before .before .before .before .before .before .before .before .before .before .before .before .before .before .before .before .before .loop .regs .p - 2) 0) (noteIn (c .before .before .before .before .before .before .before .before .before .before .before .before .before .before .before .before .before .before .before .before .before .before .before .before .before .before .before .before .before .before .before .args .rows .now) .lost) (c .before .before .before .before .before .before .before .before .before .before .before .before .before .before .before .before .before .before .before .before .before .before .before .before .before .before .before .before .before .before .before .args .mem .now) (c .before .before .before .before .before .before .before .before .before .before .before .before .before .before .before .before .before .before .before .before .before .before .before .before .before .before .before .before .before .loop .mem) (c .before .before .before .before .before .before .store-number .last .0) (c .before .before .before .before .before .before .before .before .before .before .spot6 .given .0 .0) (noteIn (c .before .before .before .before .before .before .before .before .before .before .before .before .before .before .before .before .before .before .before .before .before .before .before .before .before .before .before .before .before .loop .rows) .lost) (c .before .before .before .before .before .before .store-number .result) (size-few (widthOf (c .before .before .before .before .before .before .before .before .before .before .before .before .before .before .before .before .before .before .before .before .fetched .given .0 .0))) (omega (arith, memory-room (c .before .before .before .before .before .before .before .before .before .before .before .before .before .before .before .before .before .before .before .before .before .before .before .before .before .before .before .before .before .before .before .args .reach) (widthOf (c .before .before .before .before .before .before .before .before .before .before .before .before .before .before .before .before .before .before .before .before .fetched .given .0 .0)) (c .before .before .before .before .before .before .before .before .before .before .before .before .before .before .before .before .before .before .before .before .before .before .before .before .before .before .before .before .before .loop .cells) (told saysReached (c .before .before .before .before .before .before .before .before .before .before .before .before .before .before .before .reach2 .ensures .0) (c .before .before .before .before .before .before .before .before .before .before .before .before .before .reached2 .given .1 ∙ ap reached.At (c .before .before .before .before .before .before .before .before .before .before .spot6 .given .1))), (c .before .before .before .before .before .before .before .before .before .before .before .before .before .before .before .before .before .before .before .before .before .before .before .before .before .before .before .before .before .loop .inv .0) .long)) (c .before .before .before .before .before .before .store-number .ensures) (c .before .before .before .before .before .before .before .before .before .before .before .before .before .before .before .before .before .before .before .before .before .before .before .before .before .before .before .before .before .loop .inv .1 .1 .1) (ap (λ (n : Note). n .lost) ((c .before .before .lose .ensures (c .before .before .before .before .before .before .before .before .before .before .before .before .before .before .before .before .before .before .before .before .before .before .before .before .before .before .before .before .before .loop .copies) (c .before .before .before .before .before .before .before .before .before .before .before .before .before .before .before .before .before .before .before .before .before .before .before .before .before .before .before .before .before .loop .inv .1 .1 .0)) .note-is))))))
+loop-again-24 c = (goes (found (c .before .before .before .before .before .before .before .before .before .before .before .before .before .before .before .before .before .before .before)) (store-acts (found (c .before .before .before .before .before .before .before .before .before .before .before .before .before .before .before .before .before .before .before)) (inl (c .before .before .before .before .before .before .before .before .before .before .before .before .before .before .before .before .before .match3 .keys8))) (told saysReached (c .before .before .before .before .before .before .before .before .before .before .before .before .before .before .before .reach2 .ensures .0) (c .before .before .before .before .before .before .before .before .before .before .before .before .before .reached2 .given .1 ∙ ap reached.At (c .before .before .before .before .before .before .before .before .before .before .spot6 .given .1))) (written-there (found (c .before .before .before .before .before .before .before .before .before .before .before .before .before .before .before .before .before .before .before)) (widthOf (c .before .before .before .before .before .before .before .before .before .before .before .before .before .before .before .before .before .before .before .before .fetched .given .0 .0)) (c .before .before .before .before .before .before .before .before .before .before .spot6 .given .0 .0) (c .before .before .before .before .before .before .store-number .ensures .written) ∙ held-there (c .before .before .lose .ensures (c .before .before .before .before .before .before .before .before .before .before .before .before .before .before .before .before .before .before .before .before .before .before .before .before .before .before .before .before .before .loop .copies) (c .before .before .before .before .before .before .before .before .before .before .before .before .before .before .before .before .before .before .before .before .before .before .before .before .before .before .before .before .before .loop .inv .1 .1 .0))) refl (record { lines-same = ap (λ (n : Note). n .aside .lines) ((c .before .before .lose .ensures (c .before .before .before .before .before .before .before .before .before .before .before .before .before .before .before .before .before .before .before .before .before .before .before .before .before .before .before .before .before .loop .copies) (c .before .before .before .before .before .before .before .before .before .before .before .before .before .before .before .before .before .before .before .before .before .before .before .before .before .before .before .before .before .loop .inv .1 .1 .0)) .note-is); r-rises = omega arith; s-rises = omega arith }) (c .before .price13 .ensures .0) (c .counted14 .ensures .0), (c .before .before .before .before .before .before .before .before .before .before .before .before .before .before .before .before .before .before .before .before .before .before .before .before .before .before .before .before .before .loop .inv .1 .0, ((c .before .before .lose .ensures (c .before .before .before .before .before .before .before .before .before .before .before .before .before .before .before .before .before .before .before .before .before .before .before .before .before .before .before .before .before .loop .copies) (c .before .before .before .before .before .before .before .before .before .before .before .before .before .before .before .before .before .before .before .before .before .before .before .before .before .before .before .before .before .loop .inv .1 .1 .0)) .laid, ((stored-loses (size (widthOf (c .before .before .before .before .before .before .before .before .before .before .before .before .before .before .before .before .before .before .before .before .fetched .given .0 .0))) (getD (c .before .before .before .before .before .before .before .before .before .before .before .before .before .before .before .before .before .before .before .before .before .before .before .before .before .before .before .before .before .loop .cells) (c .before .before .before .before .before .before .before .before .before .before .before .before .before .before .before .before .before .before .before .before .before .before .before .before .before .before .before .before .before .loop .regs .p - 2) 0) (noteIn (c .before .before .before .before .before .before .before .before .before .before .before .before .before .before .before .before .before .before .before .before .before .before .before .before .before .before .before .before .before .before .before .args .rows .now) .lost) (c .before .before .before .before .before .before .before .before .before .before .before .before .before .before .before .before .before .before .before .before .before .before .before .before .before .before .before .before .before .before .before .args .mem .now) (c .before .before .before .before .before .before .before .before .before .before .before .before .before .before .before .before .before .before .before .before .before .before .before .before .before .before .before .before .before .loop .mem) (c .before .before .before .before .before .before .store-number .last .0) (c .before .before .before .before .before .before .before .before .before .before .spot6 .given .0 .0) (noteIn (c .before .before .before .before .before .before .before .before .before .before .before .before .before .before .before .before .before .before .before .before .before .before .before .before .before .before .before .before .before .loop .rows) .lost) (c .before .before .before .before .before .before .store-number .result) (size-few (widthOf (c .before .before .before .before .before .before .before .before .before .before .before .before .before .before .before .before .before .before .before .before .fetched .given .0 .0))) (omega (arith, memory-room (c .before .before .before .before .before .before .before .before .before .before .before .before .before .before .before .before .before .before .before .before .before .before .before .before .before .before .before .before .before .before .before .args .reach) (widthOf (c .before .before .before .before .before .before .before .before .before .before .before .before .before .before .before .before .before .before .before .before .fetched .given .0 .0)) (c .before .before .before .before .before .before .before .before .before .before .before .before .before .before .before .before .before .before .before .before .before .before .before .before .before .before .before .before .before .loop .cells) (told saysReached (c .before .before .before .before .before .before .before .before .before .before .before .before .before .before .before .reach2 .ensures .0) (c .before .before .before .before .before .before .before .before .before .before .before .before .before .reached2 .given .1 ∙ ap reached.At (c .before .before .before .before .before .before .before .before .before .before .spot6 .given .1))), (c .before .before .before .before .before .before .before .before .before .before .before .before .before .before .before .before .before .before .before .before .before .before .before .before .before .before .before .before .before .loop .inv .0) .long)) (c .before .before .before .before .before .before .store-number .ensures) (c .before .before .before .before .before .before .before .before .before .before .before .before .before .before .before .before .before .before .before .before .before .before .before .before .before .before .before .before .before .loop .inv .1 .1 .1 .0) (ap (λ (n : Note). n .lost) ((c .before .before .lose .ensures (c .before .before .before .before .before .before .before .before .before .before .before .before .before .before .before .before .before .before .before .before .before .before .before .before .before .before .before .before .before .loop .copies) (c .before .before .before .before .before .before .before .before .before .before .before .before .before .before .before .before .before .before .before .before .before .before .before .before .before .before .before .before .before .loop .inv .1 .1 .0)) .note-is))), ((ap (λ (n : Note). n .heeds) ((c .before .before .lose .ensures (c .before .before .before .before .before .before .before .before .before .before .before .before .before .before .before .before .before .before .before .before .before .before .before .before .before .before .before .before .before .loop .copies) (c .before .before .before .before .before .before .before .before .before .before .before .before .before .before .before .before .before .before .before .before .before .before .before .before .before .before .before .before .before .loop .inv .1 .1 .0)) .note-is) ∙ (c .before .before .before .before .before .before .before .before .before .before .before .before .before .before .before .before .before .before .before .before .before .before .before .before .before .before .before .before .before .loop .inv .1 .1 .1 .1 .0)), (ap (λ (n : Note). lowestDue (n .aside .lines)) ((c .before .before .lose .ensures (c .before .before .before .before .before .before .before .before .before .before .before .before .before .before .before .before .before .before .before .before .before .before .before .before .before .before .before .before .before .loop .copies) (c .before .before .before .before .before .before .before .before .before .before .before .before .before .before .before .before .before .before .before .before .before .before .before .before .before .before .before .before .before .loop .inv .1 .1 .0)) .note-is) ∙ (c .before .before .before .before .before .before .before .before .before .before .before .before .before .before .before .before .before .before .before .before .before .before .before .before .before .before .before .before .before .loop .inv .1 .1 .1 .1 .1)))))))
 
 enum-known-spot-7 : tie.Need-enum-known-spot-7 Inv-loop μ-loop
 enum-known-spot-7 c = search needs
@@ -695,7 +716,7 @@ loop-less-25 : tie.Need-loop-less-25 Inv-loop μ-loop
 loop-less-25 c = omega (arith, c .counted15 .ensures .1)
 
 loop-again-25 : tie.Need-loop-again-25 Inv-loop μ-loop
-loop-again-25 c = (goes (found (c .before .before .before .before .before .before .before .before .before .before .before .before .before .before .before .before .before .before .before)) (store-acts (found (c .before .before .before .before .before .before .before .before .before .before .before .before .before .before .before .before .before .before .before)) (inl (c .before .before .before .before .before .before .before .before .before .before .before .before .before .before .before .before .before .match3 .keys8))) (told saysReached (c .before .before .before .before .before .before .before .before .before .before .before .before .before .before .before .reach2 .ensures .0) (c .before .before .before .before .before .before .before .before .before .before .before .before .before .reached2 .given .1 ∙ ap reached.At (c .before .before .before .before .before .before .before .before .before .before .spot7 .given .1))) (written-there (found (c .before .before .before .before .before .before .before .before .before .before .before .before .before .before .before .before .before .before .before)) (widthOf (c .before .before .before .before .before .before .before .before .before .before .before .before .before .before .before .before .before .before .before .before .fetched .given .0 .0)) (c .before .before .before .before .before .before .before .before .before .before .spot7 .given .0 .0) (c .before .before .before .before .before .before .store-own .ensures .written) ∙ held-there (c .before .before .lose2 .ensures (c .before .before .before .before .before .before .before .before .before .before .before .before .before .before .before .before .before .before .before .before .before .before .before .before .before .before .before .before .before .loop .copies) (c .before .before .before .before .before .before .before .before .before .before .before .before .before .before .before .before .before .before .before .before .before .before .before .before .before .before .before .before .before .loop .inv .1 .1 .0))) refl (c .before .price14 .ensures .0) (c .counted15 .ensures .0), (c .before .before .before .before .before .before .before .before .before .before .before .before .before .before .before .before .before .before .before .before .before .before .before .before .before .before .before .before .before .loop .inv .1 .0, ((c .before .before .lose2 .ensures (c .before .before .before .before .before .before .before .before .before .before .before .before .before .before .before .before .before .before .before .before .before .before .before .before .before .before .before .before .before .loop .copies) (c .before .before .before .before .before .before .before .before .before .before .before .before .before .before .before .before .before .before .before .before .before .before .before .before .before .before .before .before .before .loop .inv .1 .1 .0)) .laid, (stored-loses (size (widthOf (c .before .before .before .before .before .before .before .before .before .before .before .before .before .before .before .before .before .before .before .before .fetched .given .0 .0))) (getD (c .before .before .before .before .before .before .before .before .before .before .before .before .before .before .before .before .before .before .before .before .before .before .before .before .before .before .before .before .before .loop .cells) (c .before .before .before .before .before .before .before .before .before .before .before .before .before .before .before .before .before .before .before .before .before .before .before .before .before .before .before .before .before .loop .regs .p - 2) 0) (noteIn (c .before .before .before .before .before .before .before .before .before .before .before .before .before .before .before .before .before .before .before .before .before .before .before .before .before .before .before .before .before .before .before .args .rows .now) .lost) (c .before .before .before .before .before .before .before .before .before .before .before .before .before .before .before .before .before .before .before .before .before .before .before .before .before .before .before .before .before .before .before .args .mem .now) (c .before .before .before .before .before .before .before .before .before .before .before .before .before .before .before .before .before .before .before .before .before .before .before .before .before .before .before .before .before .loop .mem) (c .before .before .before .before .before .before .store-own .last .0) (c .before .before .before .before .before .before .before .before .before .before .spot7 .given .0 .0) (noteIn (c .before .before .before .before .before .before .before .before .before .before .before .before .before .before .before .before .before .before .before .before .before .before .before .before .before .before .before .before .before .loop .rows) .lost) (c .before .before .before .before .before .before .store-own .result) (size-few (widthOf (c .before .before .before .before .before .before .before .before .before .before .before .before .before .before .before .before .before .before .before .before .fetched .given .0 .0))) (omega (arith, memory-room (c .before .before .before .before .before .before .before .before .before .before .before .before .before .before .before .before .before .before .before .before .before .before .before .before .before .before .before .before .before .before .before .args .reach) (widthOf (c .before .before .before .before .before .before .before .before .before .before .before .before .before .before .before .before .before .before .before .before .fetched .given .0 .0)) (c .before .before .before .before .before .before .before .before .before .before .before .before .before .before .before .before .before .before .before .before .before .before .before .before .before .before .before .before .before .loop .cells) (told saysReached (c .before .before .before .before .before .before .before .before .before .before .before .before .before .before .before .reach2 .ensures .0) (c .before .before .before .before .before .before .before .before .before .before .before .before .before .reached2 .given .1 ∙ ap reached.At (c .before .before .before .before .before .before .before .before .before .before .spot7 .given .1))), (c .before .before .before .before .before .before .before .before .before .before .before .before .before .before .before .before .before .before .before .before .before .before .before .before .before .before .before .before .before .loop .inv .0) .long)) (c .before .before .before .before .before .before .store-own .ensures) (c .before .before .before .before .before .before .before .before .before .before .before .before .before .before .before .before .before .before .before .before .before .before .before .before .before .before .before .before .before .loop .inv .1 .1 .1) (ap (λ (n : Note). n .lost) ((c .before .before .lose2 .ensures (c .before .before .before .before .before .before .before .before .before .before .before .before .before .before .before .before .before .before .before .before .before .before .before .before .before .before .before .before .before .loop .copies) (c .before .before .before .before .before .before .before .before .before .before .before .before .before .before .before .before .before .before .before .before .before .before .before .before .before .before .before .before .before .loop .inv .1 .1 .0)) .note-is))))))
+loop-again-25 c = (goes (found (c .before .before .before .before .before .before .before .before .before .before .before .before .before .before .before .before .before .before .before)) (store-acts (found (c .before .before .before .before .before .before .before .before .before .before .before .before .before .before .before .before .before .before .before)) (inl (c .before .before .before .before .before .before .before .before .before .before .before .before .before .before .before .before .before .match3 .keys8))) (told saysReached (c .before .before .before .before .before .before .before .before .before .before .before .before .before .before .before .reach2 .ensures .0) (c .before .before .before .before .before .before .before .before .before .before .before .before .before .reached2 .given .1 ∙ ap reached.At (c .before .before .before .before .before .before .before .before .before .before .spot7 .given .1))) (written-there (found (c .before .before .before .before .before .before .before .before .before .before .before .before .before .before .before .before .before .before .before)) (widthOf (c .before .before .before .before .before .before .before .before .before .before .before .before .before .before .before .before .before .before .before .before .fetched .given .0 .0)) (c .before .before .before .before .before .before .before .before .before .before .spot7 .given .0 .0) (c .before .before .before .before .before .before .store-own .ensures .written) ∙ held-there (c .before .before .lose2 .ensures (c .before .before .before .before .before .before .before .before .before .before .before .before .before .before .before .before .before .before .before .before .before .before .before .before .before .before .before .before .before .loop .copies) (c .before .before .before .before .before .before .before .before .before .before .before .before .before .before .before .before .before .before .before .before .before .before .before .before .before .before .before .before .before .loop .inv .1 .1 .0))) refl (record { lines-same = ap (λ (n : Note). n .aside .lines) ((c .before .before .lose2 .ensures (c .before .before .before .before .before .before .before .before .before .before .before .before .before .before .before .before .before .before .before .before .before .before .before .before .before .before .before .before .before .loop .copies) (c .before .before .before .before .before .before .before .before .before .before .before .before .before .before .before .before .before .before .before .before .before .before .before .before .before .before .before .before .before .loop .inv .1 .1 .0)) .note-is); r-rises = omega arith; s-rises = omega arith }) (c .before .price14 .ensures .0) (c .counted15 .ensures .0), (c .before .before .before .before .before .before .before .before .before .before .before .before .before .before .before .before .before .before .before .before .before .before .before .before .before .before .before .before .before .loop .inv .1 .0, ((c .before .before .lose2 .ensures (c .before .before .before .before .before .before .before .before .before .before .before .before .before .before .before .before .before .before .before .before .before .before .before .before .before .before .before .before .before .loop .copies) (c .before .before .before .before .before .before .before .before .before .before .before .before .before .before .before .before .before .before .before .before .before .before .before .before .before .before .before .before .before .loop .inv .1 .1 .0)) .laid, ((stored-loses (size (widthOf (c .before .before .before .before .before .before .before .before .before .before .before .before .before .before .before .before .before .before .before .before .fetched .given .0 .0))) (getD (c .before .before .before .before .before .before .before .before .before .before .before .before .before .before .before .before .before .before .before .before .before .before .before .before .before .before .before .before .before .loop .cells) (c .before .before .before .before .before .before .before .before .before .before .before .before .before .before .before .before .before .before .before .before .before .before .before .before .before .before .before .before .before .loop .regs .p - 2) 0) (noteIn (c .before .before .before .before .before .before .before .before .before .before .before .before .before .before .before .before .before .before .before .before .before .before .before .before .before .before .before .before .before .before .before .args .rows .now) .lost) (c .before .before .before .before .before .before .before .before .before .before .before .before .before .before .before .before .before .before .before .before .before .before .before .before .before .before .before .before .before .before .before .args .mem .now) (c .before .before .before .before .before .before .before .before .before .before .before .before .before .before .before .before .before .before .before .before .before .before .before .before .before .before .before .before .before .loop .mem) (c .before .before .before .before .before .before .store-own .last .0) (c .before .before .before .before .before .before .before .before .before .before .spot7 .given .0 .0) (noteIn (c .before .before .before .before .before .before .before .before .before .before .before .before .before .before .before .before .before .before .before .before .before .before .before .before .before .before .before .before .before .loop .rows) .lost) (c .before .before .before .before .before .before .store-own .result) (size-few (widthOf (c .before .before .before .before .before .before .before .before .before .before .before .before .before .before .before .before .before .before .before .before .fetched .given .0 .0))) (omega (arith, memory-room (c .before .before .before .before .before .before .before .before .before .before .before .before .before .before .before .before .before .before .before .before .before .before .before .before .before .before .before .before .before .before .before .args .reach) (widthOf (c .before .before .before .before .before .before .before .before .before .before .before .before .before .before .before .before .before .before .before .before .fetched .given .0 .0)) (c .before .before .before .before .before .before .before .before .before .before .before .before .before .before .before .before .before .before .before .before .before .before .before .before .before .before .before .before .before .loop .cells) (told saysReached (c .before .before .before .before .before .before .before .before .before .before .before .before .before .before .before .reach2 .ensures .0) (c .before .before .before .before .before .before .before .before .before .before .before .before .before .reached2 .given .1 ∙ ap reached.At (c .before .before .before .before .before .before .before .before .before .before .spot7 .given .1))), (c .before .before .before .before .before .before .before .before .before .before .before .before .before .before .before .before .before .before .before .before .before .before .before .before .before .before .before .before .before .loop .inv .0) .long)) (c .before .before .before .before .before .before .store-own .ensures) (c .before .before .before .before .before .before .before .before .before .before .before .before .before .before .before .before .before .before .before .before .before .before .before .before .before .before .before .before .before .loop .inv .1 .1 .1 .0) (ap (λ (n : Note). n .lost) ((c .before .before .lose2 .ensures (c .before .before .before .before .before .before .before .before .before .before .before .before .before .before .before .before .before .before .before .before .before .before .before .before .before .before .before .before .before .loop .copies) (c .before .before .before .before .before .before .before .before .before .before .before .before .before .before .before .before .before .before .before .before .before .before .before .before .before .before .before .before .before .loop .inv .1 .1 .0)) .note-is))), ((ap (λ (n : Note). n .heeds) ((c .before .before .lose2 .ensures (c .before .before .before .before .before .before .before .before .before .before .before .before .before .before .before .before .before .before .before .before .before .before .before .before .before .before .before .before .before .loop .copies) (c .before .before .before .before .before .before .before .before .before .before .before .before .before .before .before .before .before .before .before .before .before .before .before .before .before .before .before .before .before .loop .inv .1 .1 .0)) .note-is) ∙ (c .before .before .before .before .before .before .before .before .before .before .before .before .before .before .before .before .before .before .before .before .before .before .before .before .before .before .before .before .before .loop .inv .1 .1 .1 .1 .0)), (ap (λ (n : Note). lowestDue (n .aside .lines)) ((c .before .before .lose2 .ensures (c .before .before .before .before .before .before .before .before .before .before .before .before .before .before .before .before .before .before .before .before .before .before .before .before .before .before .before .before .before .loop .copies) (c .before .before .before .before .before .before .before .before .before .before .before .before .before .before .before .before .before .before .before .before .before .before .before .before .before .before .before .before .before .loop .inv .1 .1 .0)) .note-is) ∙ (c .before .before .before .before .before .before .before .before .before .before .before .before .before .before .before .before .before .before .before .before .before .before .before .before .before .before .before .before .before .loop .inv .1 .1 .1 .1 .1)))))))
 
 enum-known-spot-8 : tie.Need-enum-known-spot-8 Inv-loop μ-loop
 enum-known-spot-8 c = search needs
@@ -725,7 +746,7 @@ loop-less-26 : tie.Need-loop-less-26 Inv-loop μ-loop
 loop-less-26 c = omega (arith, c .counted16 .ensures .1)
 
 loop-again-26 : tie.Need-loop-again-26 Inv-loop μ-loop
-loop-again-26 c = (goes (found (c .before .before .before .before .before .before .before .before .before .before .before .before .before .before .before)) (store-acts (found (c .before .before .before .before .before .before .before .before .before .before .before .before .before .before .before)) (inl (c .before .before .before .before .before .before .before .before .before .before .before .before .before .match3 .keys8))) (told saysReached (c .before .before .before .before .before .before .before .before .before .before .before .reach2 .ensures .0) (c .before .before .before .before .before .before .before .before .before .reached2 .given .1 ∙ ap reached.At (c .before .before .before .before .before .before .spot8 .given .1))) (held-there (kept-whole (found (c .before .before .before .before .before .before .before .before .before .before .before .before .before .before .before)) (widthOf (c .before .before .before .before .before .before .before .before .before .before .before .before .before .before .before .before .fetched .given .0 .0)) (4 * c .before .before .before .before .before .before .spot8 .given .0 .0) (getD (c .before .before .before .before .before .before .before .before .before .before .before .before .before .before .before .before .before .before .before .before .before .before .before .before .before .loop .cells) (c .before .before .before .before .before .before .before .before .before .before .before .before .before .before .before .before .before .before .before .before .before .before .before .before .before .loop .regs .p - 2) 0) ((spot-within (c .before .before .before .before .before .before .before .before .before .before .before .before .before .before .before .before .before .before .before .before .before .before .before .before .before .before .before .args .reach) (widthOf (c .before .before .before .before .before .before .before .before .before .before .before .before .before .before .before .before .fetched .given .0 .0)) (c .before .before .before .before .before .before .before .before .before .before .before .reach2 .ensures .1) (c .before .before .before .before .before .before .before .before .before .reached2 .given .1 ∙ ap reached.At (c .before .before .before .before .before .before .spot8 .given .1))) .0) (c .before .before .set-local .ensures (c .before .before .before .before .before .before .before .before .before .before .before .before .before .before .before .before .before .before .before .before .before .before .before .before .before .loop .copies) (c .before .before .before .before .before .before .before .before .before .before .before .before .before .before .before .before .before .before .before .before .before .before .before .before .before .loop .regs .e) (omega (arith, (c .before .before .before .before .before .before .before .before .before .before .before .before .before .before .before .before .before .before .before .before .before .before .before .before .before .loop .inv .0) .e-within)) (c .before .before .before .before .before .before .before .before .before .before .before .before .before .before .before .before .before .before .before .before .before .before .before .before .before .loop .inv .1 .1 .0)))) refl (c .before .price15 .ensures .0) (c .counted16 .ensures .0), (c .before .before .before .before .before .before .before .before .before .before .before .before .before .before .before .before .before .before .before .before .before .before .before .before .before .loop .inv .1 .0, ((kept-whole (found (c .before .before .before .before .before .before .before .before .before .before .before .before .before .before .before)) (widthOf (c .before .before .before .before .before .before .before .before .before .before .before .before .before .before .before .before .fetched .given .0 .0)) (4 * c .before .before .before .before .before .before .spot8 .given .0 .0) (getD (c .before .before .before .before .before .before .before .before .before .before .before .before .before .before .before .before .before .before .before .before .before .before .before .before .before .loop .cells) (c .before .before .before .before .before .before .before .before .before .before .before .before .before .before .before .before .before .before .before .before .before .before .before .before .before .loop .regs .p - 2) 0) ((spot-within (c .before .before .before .before .before .before .before .before .before .before .before .before .before .before .before .before .before .before .before .before .before .before .before .before .before .before .before .args .reach) (widthOf (c .before .before .before .before .before .before .before .before .before .before .before .before .before .before .before .before .fetched .given .0 .0)) (c .before .before .before .before .before .before .before .before .before .before .before .reach2 .ensures .1) (c .before .before .before .before .before .before .before .before .before .reached2 .given .1 ∙ ap reached.At (c .before .before .before .before .before .before .spot8 .given .1))) .0) (c .before .before .set-local .ensures (c .before .before .before .before .before .before .before .before .before .before .before .before .before .before .before .before .before .before .before .before .before .before .before .before .before .loop .copies) (c .before .before .before .before .before .before .before .before .before .before .before .before .before .before .before .before .before .before .before .before .before .before .before .before .before .loop .regs .e) (omega (arith, (c .before .before .before .before .before .before .before .before .before .before .before .before .before .before .before .before .before .before .before .before .before .before .before .before .before .loop .inv .0) .e-within)) (c .before .before .before .before .before .before .before .before .before .before .before .before .before .before .before .before .before .before .before .before .before .before .before .before .before .loop .inv .1 .1 .0))) .laid, ap (λ (n : Note). n .lost % 2 ^ 32) ((kept-whole (found (c .before .before .before .before .before .before .before .before .before .before .before .before .before .before .before)) (widthOf (c .before .before .before .before .before .before .before .before .before .before .before .before .before .before .before .before .fetched .given .0 .0)) (4 * c .before .before .before .before .before .before .spot8 .given .0 .0) (getD (c .before .before .before .before .before .before .before .before .before .before .before .before .before .before .before .before .before .before .before .before .before .before .before .before .before .loop .cells) (c .before .before .before .before .before .before .before .before .before .before .before .before .before .before .before .before .before .before .before .before .before .before .before .before .before .loop .regs .p - 2) 0) ((spot-within (c .before .before .before .before .before .before .before .before .before .before .before .before .before .before .before .before .before .before .before .before .before .before .before .before .before .before .before .args .reach) (widthOf (c .before .before .before .before .before .before .before .before .before .before .before .before .before .before .before .before .fetched .given .0 .0)) (c .before .before .before .before .before .before .before .before .before .before .before .reach2 .ensures .1) (c .before .before .before .before .before .before .before .before .before .reached2 .given .1 ∙ ap reached.At (c .before .before .before .before .before .before .spot8 .given .1))) .0) (c .before .before .set-local .ensures (c .before .before .before .before .before .before .before .before .before .before .before .before .before .before .before .before .before .before .before .before .before .before .before .before .before .loop .copies) (c .before .before .before .before .before .before .before .before .before .before .before .before .before .before .before .before .before .before .before .before .before .before .before .before .before .loop .regs .e) (omega (arith, (c .before .before .before .before .before .before .before .before .before .before .before .before .before .before .before .before .before .before .before .before .before .before .before .before .before .loop .inv .0) .e-within)) (c .before .before .before .before .before .before .before .before .before .before .before .before .before .before .before .before .before .before .before .before .before .before .before .before .before .loop .inv .1 .1 .0))) .note-is) ∙ (c .before .before .before .before .before .before .before .before .before .before .before .before .before .before .before .before .before .before .before .before .before .before .before .before .before .loop .inv .1 .1 .1))))
+loop-again-26 c = (goes (found (c .before .before .before .before .before .before .before .before .before .before .before .before .before .before .before)) (store-acts (found (c .before .before .before .before .before .before .before .before .before .before .before .before .before .before .before)) (inl (c .before .before .before .before .before .before .before .before .before .before .before .before .before .match3 .keys8))) (told saysReached (c .before .before .before .before .before .before .before .before .before .before .before .reach2 .ensures .0) (c .before .before .before .before .before .before .before .before .before .reached2 .given .1 ∙ ap reached.At (c .before .before .before .before .before .before .spot8 .given .1))) (held-there (kept-whole (found (c .before .before .before .before .before .before .before .before .before .before .before .before .before .before .before)) (widthOf (c .before .before .before .before .before .before .before .before .before .before .before .before .before .before .before .before .fetched .given .0 .0)) (4 * c .before .before .before .before .before .before .spot8 .given .0 .0) (getD (c .before .before .before .before .before .before .before .before .before .before .before .before .before .before .before .before .before .before .before .before .before .before .before .before .before .loop .cells) (c .before .before .before .before .before .before .before .before .before .before .before .before .before .before .before .before .before .before .before .before .before .before .before .before .before .loop .regs .p - 2) 0) ((spot-within (c .before .before .before .before .before .before .before .before .before .before .before .before .before .before .before .before .before .before .before .before .before .before .before .before .before .before .before .args .reach) (widthOf (c .before .before .before .before .before .before .before .before .before .before .before .before .before .before .before .before .fetched .given .0 .0)) (c .before .before .before .before .before .before .before .before .before .before .before .reach2 .ensures .1) (c .before .before .before .before .before .before .before .before .before .reached2 .given .1 ∙ ap reached.At (c .before .before .before .before .before .before .spot8 .given .1))) .0) (c .before .before .set-local .ensures (c .before .before .before .before .before .before .before .before .before .before .before .before .before .before .before .before .before .before .before .before .before .before .before .before .before .loop .copies) (c .before .before .before .before .before .before .before .before .before .before .before .before .before .before .before .before .before .before .before .before .before .before .before .before .before .loop .regs .e) (omega (arith, (c .before .before .before .before .before .before .before .before .before .before .before .before .before .before .before .before .before .before .before .before .before .before .before .before .before .loop .inv .0) .e-within)) (c .before .before .before .before .before .before .before .before .before .before .before .before .before .before .before .before .before .before .before .before .before .before .before .before .before .loop .inv .1 .1 .0)))) refl (record { lines-same = ap (λ (n : Note). n .aside .lines) ((kept-whole (found (c .before .before .before .before .before .before .before .before .before .before .before .before .before .before .before)) (widthOf (c .before .before .before .before .before .before .before .before .before .before .before .before .before .before .before .before .fetched .given .0 .0)) (4 * c .before .before .before .before .before .before .spot8 .given .0 .0) (getD (c .before .before .before .before .before .before .before .before .before .before .before .before .before .before .before .before .before .before .before .before .before .before .before .before .before .loop .cells) (c .before .before .before .before .before .before .before .before .before .before .before .before .before .before .before .before .before .before .before .before .before .before .before .before .before .loop .regs .p - 2) 0) ((spot-within (c .before .before .before .before .before .before .before .before .before .before .before .before .before .before .before .before .before .before .before .before .before .before .before .before .before .before .before .args .reach) (widthOf (c .before .before .before .before .before .before .before .before .before .before .before .before .before .before .before .before .fetched .given .0 .0)) (c .before .before .before .before .before .before .before .before .before .before .before .reach2 .ensures .1) (c .before .before .before .before .before .before .before .before .before .reached2 .given .1 ∙ ap reached.At (c .before .before .before .before .before .before .spot8 .given .1))) .0) (c .before .before .set-local .ensures (c .before .before .before .before .before .before .before .before .before .before .before .before .before .before .before .before .before .before .before .before .before .before .before .before .before .loop .copies) (c .before .before .before .before .before .before .before .before .before .before .before .before .before .before .before .before .before .before .before .before .before .before .before .before .before .loop .regs .e) (omega (arith, (c .before .before .before .before .before .before .before .before .before .before .before .before .before .before .before .before .before .before .before .before .before .before .before .before .before .loop .inv .0) .e-within)) (c .before .before .before .before .before .before .before .before .before .before .before .before .before .before .before .before .before .before .before .before .before .before .before .before .before .loop .inv .1 .1 .0))) .note-is); r-rises = omega arith; s-rises = omega arith }) (c .before .price15 .ensures .0) (c .counted16 .ensures .0), (c .before .before .before .before .before .before .before .before .before .before .before .before .before .before .before .before .before .before .before .before .before .before .before .before .before .loop .inv .1 .0, ((kept-whole (found (c .before .before .before .before .before .before .before .before .before .before .before .before .before .before .before)) (widthOf (c .before .before .before .before .before .before .before .before .before .before .before .before .before .before .before .before .fetched .given .0 .0)) (4 * c .before .before .before .before .before .before .spot8 .given .0 .0) (getD (c .before .before .before .before .before .before .before .before .before .before .before .before .before .before .before .before .before .before .before .before .before .before .before .before .before .loop .cells) (c .before .before .before .before .before .before .before .before .before .before .before .before .before .before .before .before .before .before .before .before .before .before .before .before .before .loop .regs .p - 2) 0) ((spot-within (c .before .before .before .before .before .before .before .before .before .before .before .before .before .before .before .before .before .before .before .before .before .before .before .before .before .before .before .args .reach) (widthOf (c .before .before .before .before .before .before .before .before .before .before .before .before .before .before .before .before .fetched .given .0 .0)) (c .before .before .before .before .before .before .before .before .before .before .before .reach2 .ensures .1) (c .before .before .before .before .before .before .before .before .before .reached2 .given .1 ∙ ap reached.At (c .before .before .before .before .before .before .spot8 .given .1))) .0) (c .before .before .set-local .ensures (c .before .before .before .before .before .before .before .before .before .before .before .before .before .before .before .before .before .before .before .before .before .before .before .before .before .loop .copies) (c .before .before .before .before .before .before .before .before .before .before .before .before .before .before .before .before .before .before .before .before .before .before .before .before .before .loop .regs .e) (omega (arith, (c .before .before .before .before .before .before .before .before .before .before .before .before .before .before .before .before .before .before .before .before .before .before .before .before .before .loop .inv .0) .e-within)) (c .before .before .before .before .before .before .before .before .before .before .before .before .before .before .before .before .before .before .before .before .before .before .before .before .before .loop .inv .1 .1 .0))) .laid, (ap (λ (n : Note). n .lost % 2 ^ 32) ((kept-whole (found (c .before .before .before .before .before .before .before .before .before .before .before .before .before .before .before)) (widthOf (c .before .before .before .before .before .before .before .before .before .before .before .before .before .before .before .before .fetched .given .0 .0)) (4 * c .before .before .before .before .before .before .spot8 .given .0 .0) (getD (c .before .before .before .before .before .before .before .before .before .before .before .before .before .before .before .before .before .before .before .before .before .before .before .before .before .loop .cells) (c .before .before .before .before .before .before .before .before .before .before .before .before .before .before .before .before .before .before .before .before .before .before .before .before .before .loop .regs .p - 2) 0) ((spot-within (c .before .before .before .before .before .before .before .before .before .before .before .before .before .before .before .before .before .before .before .before .before .before .before .before .before .before .before .args .reach) (widthOf (c .before .before .before .before .before .before .before .before .before .before .before .before .before .before .before .before .fetched .given .0 .0)) (c .before .before .before .before .before .before .before .before .before .before .before .reach2 .ensures .1) (c .before .before .before .before .before .before .before .before .before .reached2 .given .1 ∙ ap reached.At (c .before .before .before .before .before .before .spot8 .given .1))) .0) (c .before .before .set-local .ensures (c .before .before .before .before .before .before .before .before .before .before .before .before .before .before .before .before .before .before .before .before .before .before .before .before .before .loop .copies) (c .before .before .before .before .before .before .before .before .before .before .before .before .before .before .before .before .before .before .before .before .before .before .before .before .before .loop .regs .e) (omega (arith, (c .before .before .before .before .before .before .before .before .before .before .before .before .before .before .before .before .before .before .before .before .before .before .before .before .before .loop .inv .0) .e-within)) (c .before .before .before .before .before .before .before .before .before .before .before .before .before .before .before .before .before .before .before .before .before .before .before .before .before .loop .inv .1 .1 .0))) .note-is) ∙ (c .before .before .before .before .before .before .before .before .before .before .before .before .before .before .before .before .before .before .before .before .before .before .before .before .before .loop .inv .1 .1 .1 .0), ((ap (λ (n : Note). n .heeds) ((kept-whole (found (c .before .before .before .before .before .before .before .before .before .before .before .before .before .before .before)) (widthOf (c .before .before .before .before .before .before .before .before .before .before .before .before .before .before .before .before .fetched .given .0 .0)) (4 * c .before .before .before .before .before .before .spot8 .given .0 .0) (getD (c .before .before .before .before .before .before .before .before .before .before .before .before .before .before .before .before .before .before .before .before .before .before .before .before .before .loop .cells) (c .before .before .before .before .before .before .before .before .before .before .before .before .before .before .before .before .before .before .before .before .before .before .before .before .before .loop .regs .p - 2) 0) ((spot-within (c .before .before .before .before .before .before .before .before .before .before .before .before .before .before .before .before .before .before .before .before .before .before .before .before .before .before .before .args .reach) (widthOf (c .before .before .before .before .before .before .before .before .before .before .before .before .before .before .before .before .fetched .given .0 .0)) (c .before .before .before .before .before .before .before .before .before .before .before .reach2 .ensures .1) (c .before .before .before .before .before .before .before .before .before .reached2 .given .1 ∙ ap reached.At (c .before .before .before .before .before .before .spot8 .given .1))) .0) (c .before .before .set-local .ensures (c .before .before .before .before .before .before .before .before .before .before .before .before .before .before .before .before .before .before .before .before .before .before .before .before .before .loop .copies) (c .before .before .before .before .before .before .before .before .before .before .before .before .before .before .before .before .before .before .before .before .before .before .before .before .before .loop .regs .e) (omega (arith, (c .before .before .before .before .before .before .before .before .before .before .before .before .before .before .before .before .before .before .before .before .before .before .before .before .before .loop .inv .0) .e-within)) (c .before .before .before .before .before .before .before .before .before .before .before .before .before .before .before .before .before .before .before .before .before .before .before .before .before .loop .inv .1 .1 .0))) .note-is) ∙ (c .before .before .before .before .before .before .before .before .before .before .before .before .before .before .before .before .before .before .before .before .before .before .before .before .before .loop .inv .1 .1 .1 .1 .0)), (ap (λ (n : Note). lowestDue (n .aside .lines)) ((kept-whole (found (c .before .before .before .before .before .before .before .before .before .before .before .before .before .before .before)) (widthOf (c .before .before .before .before .before .before .before .before .before .before .before .before .before .before .before .before .fetched .given .0 .0)) (4 * c .before .before .before .before .before .before .spot8 .given .0 .0) (getD (c .before .before .before .before .before .before .before .before .before .before .before .before .before .before .before .before .before .before .before .before .before .before .before .before .before .loop .cells) (c .before .before .before .before .before .before .before .before .before .before .before .before .before .before .before .before .before .before .before .before .before .before .before .before .before .loop .regs .p - 2) 0) ((spot-within (c .before .before .before .before .before .before .before .before .before .before .before .before .before .before .before .before .before .before .before .before .before .before .before .before .before .before .before .args .reach) (widthOf (c .before .before .before .before .before .before .before .before .before .before .before .before .before .before .before .before .fetched .given .0 .0)) (c .before .before .before .before .before .before .before .before .before .before .before .reach2 .ensures .1) (c .before .before .before .before .before .before .before .before .before .reached2 .given .1 ∙ ap reached.At (c .before .before .before .before .before .before .spot8 .given .1))) .0) (c .before .before .set-local .ensures (c .before .before .before .before .before .before .before .before .before .before .before .before .before .before .before .before .before .before .before .before .before .before .before .before .before .loop .copies) (c .before .before .before .before .before .before .before .before .before .before .before .before .before .before .before .before .before .before .before .before .before .before .before .before .before .loop .regs .e) (omega (arith, (c .before .before .before .before .before .before .before .before .before .before .before .before .before .before .before .before .before .before .before .before .before .before .before .before .before .loop .inv .0) .e-within)) (c .before .before .before .before .before .before .before .before .before .before .before .before .before .before .before .before .before .before .before .before .before .before .before .before .before .loop .inv .1 .1 .0))) .note-is) ∙ (c .before .before .before .before .before .before .before .before .before .before .before .before .before .before .before .before .before .before .before .before .before .before .before .before .before .loop .inv .1 .1 .1 .1 .1)))))))
 
 enum-known-spot-9 : tie.Need-enum-known-spot-9 Inv-loop μ-loop
 enum-known-spot-9 c = search needs
@@ -755,7 +776,7 @@ loop-less-27 : tie.Need-loop-less-27 Inv-loop μ-loop
 loop-less-27 c = omega (arith, c .counted17 .ensures .1)
 
 loop-again-27 : tie.Need-loop-again-27 Inv-loop μ-loop
-loop-again-27 c = (goes (found (c .before .before .before .before .before .before .before .before .before .before .before .before .before .before .before)) (store-acts (found (c .before .before .before .before .before .before .before .before .before .before .before .before .before .before .before)) (inl (c .before .before .before .before .before .before .before .before .before .before .before .before .before .match3 .keys8))) (told saysReached (c .before .before .before .before .before .before .before .before .before .before .before .reach2 .ensures .0) (c .before .before .before .before .before .before .before .before .before .reached2 .given .1 ∙ ap reached.At (c .before .before .before .before .before .before .spot9 .given .1))) (held-there (kept-whole (found (c .before .before .before .before .before .before .before .before .before .before .before .before .before .before .before)) (widthOf (c .before .before .before .before .before .before .before .before .before .before .before .before .before .before .before .before .fetched .given .0 .0)) (4 * (localsCount + c .before .before .before .before .before .before .spot9 .given .0 .0)) (getD (c .before .before .before .before .before .before .before .before .before .before .before .before .before .before .before .before .before .before .before .before .before .before .before .before .before .loop .cells) (c .before .before .before .before .before .before .before .before .before .before .before .before .before .before .before .before .before .before .before .before .before .before .before .before .before .loop .regs .p - 2) 0) ((spot-within (c .before .before .before .before .before .before .before .before .before .before .before .before .before .before .before .before .before .before .before .before .before .before .before .before .before .before .before .args .reach) (widthOf (c .before .before .before .before .before .before .before .before .before .before .before .before .before .before .before .before .fetched .given .0 .0)) (c .before .before .before .before .before .before .before .before .before .before .before .reach2 .ensures .1) (c .before .before .before .before .before .before .before .before .before .reached2 .given .1 ∙ ap reached.At (c .before .before .before .before .before .before .spot9 .given .1))) .0) (c .before .before .set-cell .ensures (c .before .before .before .before .before .before .before .before .before .before .before .before .before .before .before .before .before .before .before .before .before .before .before .before .before .loop .copies) (c .before .before .before .before .before .before .before .before .before .before .before .before .before .before .before .before .before .before .before .before .before .before .before .before .before .loop .regs .s) (omega (arith, (c .before .before .before .before .before .before .before .before .before .before .before .before .before .before .before .before .before .before .before .before .before .before .before .before .before .loop .inv .0) .s-within)) (c .before .before .before .before .before .before .before .before .before .before .before .before .before .before .before .before .before .before .before .before .before .before .before .before .before .loop .inv .1 .1 .0)))) refl (c .before .price16 .ensures .0) (c .counted17 .ensures .0), (c .before .before .before .before .before .before .before .before .before .before .before .before .before .before .before .before .before .before .before .before .before .before .before .before .before .loop .inv .1 .0, ((kept-whole (found (c .before .before .before .before .before .before .before .before .before .before .before .before .before .before .before)) (widthOf (c .before .before .before .before .before .before .before .before .before .before .before .before .before .before .before .before .fetched .given .0 .0)) (4 * (localsCount + c .before .before .before .before .before .before .spot9 .given .0 .0)) (getD (c .before .before .before .before .before .before .before .before .before .before .before .before .before .before .before .before .before .before .before .before .before .before .before .before .before .loop .cells) (c .before .before .before .before .before .before .before .before .before .before .before .before .before .before .before .before .before .before .before .before .before .before .before .before .before .loop .regs .p - 2) 0) ((spot-within (c .before .before .before .before .before .before .before .before .before .before .before .before .before .before .before .before .before .before .before .before .before .before .before .before .before .before .before .args .reach) (widthOf (c .before .before .before .before .before .before .before .before .before .before .before .before .before .before .before .before .fetched .given .0 .0)) (c .before .before .before .before .before .before .before .before .before .before .before .reach2 .ensures .1) (c .before .before .before .before .before .before .before .before .before .reached2 .given .1 ∙ ap reached.At (c .before .before .before .before .before .before .spot9 .given .1))) .0) (c .before .before .set-cell .ensures (c .before .before .before .before .before .before .before .before .before .before .before .before .before .before .before .before .before .before .before .before .before .before .before .before .before .loop .copies) (c .before .before .before .before .before .before .before .before .before .before .before .before .before .before .before .before .before .before .before .before .before .before .before .before .before .loop .regs .s) (omega (arith, (c .before .before .before .before .before .before .before .before .before .before .before .before .before .before .before .before .before .before .before .before .before .before .before .before .before .loop .inv .0) .s-within)) (c .before .before .before .before .before .before .before .before .before .before .before .before .before .before .before .before .before .before .before .before .before .before .before .before .before .loop .inv .1 .1 .0))) .laid, ap (λ (n : Note). n .lost % 2 ^ 32) ((kept-whole (found (c .before .before .before .before .before .before .before .before .before .before .before .before .before .before .before)) (widthOf (c .before .before .before .before .before .before .before .before .before .before .before .before .before .before .before .before .fetched .given .0 .0)) (4 * (localsCount + c .before .before .before .before .before .before .spot9 .given .0 .0)) (getD (c .before .before .before .before .before .before .before .before .before .before .before .before .before .before .before .before .before .before .before .before .before .before .before .before .before .loop .cells) (c .before .before .before .before .before .before .before .before .before .before .before .before .before .before .before .before .before .before .before .before .before .before .before .before .before .loop .regs .p - 2) 0) ((spot-within (c .before .before .before .before .before .before .before .before .before .before .before .before .before .before .before .before .before .before .before .before .before .before .before .before .before .before .before .args .reach) (widthOf (c .before .before .before .before .before .before .before .before .before .before .before .before .before .before .before .before .fetched .given .0 .0)) (c .before .before .before .before .before .before .before .before .before .before .before .reach2 .ensures .1) (c .before .before .before .before .before .before .before .before .before .reached2 .given .1 ∙ ap reached.At (c .before .before .before .before .before .before .spot9 .given .1))) .0) (c .before .before .set-cell .ensures (c .before .before .before .before .before .before .before .before .before .before .before .before .before .before .before .before .before .before .before .before .before .before .before .before .before .loop .copies) (c .before .before .before .before .before .before .before .before .before .before .before .before .before .before .before .before .before .before .before .before .before .before .before .before .before .loop .regs .s) (omega (arith, (c .before .before .before .before .before .before .before .before .before .before .before .before .before .before .before .before .before .before .before .before .before .before .before .before .before .loop .inv .0) .s-within)) (c .before .before .before .before .before .before .before .before .before .before .before .before .before .before .before .before .before .before .before .before .before .before .before .before .before .loop .inv .1 .1 .0))) .note-is) ∙ (c .before .before .before .before .before .before .before .before .before .before .before .before .before .before .before .before .before .before .before .before .before .before .before .before .before .loop .inv .1 .1 .1))))
+loop-again-27 c = (goes (found (c .before .before .before .before .before .before .before .before .before .before .before .before .before .before .before)) (store-acts (found (c .before .before .before .before .before .before .before .before .before .before .before .before .before .before .before)) (inl (c .before .before .before .before .before .before .before .before .before .before .before .before .before .match3 .keys8))) (told saysReached (c .before .before .before .before .before .before .before .before .before .before .before .reach2 .ensures .0) (c .before .before .before .before .before .before .before .before .before .reached2 .given .1 ∙ ap reached.At (c .before .before .before .before .before .before .spot9 .given .1))) (held-there (kept-whole (found (c .before .before .before .before .before .before .before .before .before .before .before .before .before .before .before)) (widthOf (c .before .before .before .before .before .before .before .before .before .before .before .before .before .before .before .before .fetched .given .0 .0)) (4 * (localsCount + c .before .before .before .before .before .before .spot9 .given .0 .0)) (getD (c .before .before .before .before .before .before .before .before .before .before .before .before .before .before .before .before .before .before .before .before .before .before .before .before .before .loop .cells) (c .before .before .before .before .before .before .before .before .before .before .before .before .before .before .before .before .before .before .before .before .before .before .before .before .before .loop .regs .p - 2) 0) ((spot-within (c .before .before .before .before .before .before .before .before .before .before .before .before .before .before .before .before .before .before .before .before .before .before .before .before .before .before .before .args .reach) (widthOf (c .before .before .before .before .before .before .before .before .before .before .before .before .before .before .before .before .fetched .given .0 .0)) (c .before .before .before .before .before .before .before .before .before .before .before .reach2 .ensures .1) (c .before .before .before .before .before .before .before .before .before .reached2 .given .1 ∙ ap reached.At (c .before .before .before .before .before .before .spot9 .given .1))) .0) (c .before .before .set-cell .ensures (c .before .before .before .before .before .before .before .before .before .before .before .before .before .before .before .before .before .before .before .before .before .before .before .before .before .loop .copies) (c .before .before .before .before .before .before .before .before .before .before .before .before .before .before .before .before .before .before .before .before .before .before .before .before .before .loop .regs .s) (omega (arith, (c .before .before .before .before .before .before .before .before .before .before .before .before .before .before .before .before .before .before .before .before .before .before .before .before .before .loop .inv .0) .s-within)) (c .before .before .before .before .before .before .before .before .before .before .before .before .before .before .before .before .before .before .before .before .before .before .before .before .before .loop .inv .1 .1 .0)))) refl (record { lines-same = ap (λ (n : Note). n .aside .lines) ((kept-whole (found (c .before .before .before .before .before .before .before .before .before .before .before .before .before .before .before)) (widthOf (c .before .before .before .before .before .before .before .before .before .before .before .before .before .before .before .before .fetched .given .0 .0)) (4 * (localsCount + c .before .before .before .before .before .before .spot9 .given .0 .0)) (getD (c .before .before .before .before .before .before .before .before .before .before .before .before .before .before .before .before .before .before .before .before .before .before .before .before .before .loop .cells) (c .before .before .before .before .before .before .before .before .before .before .before .before .before .before .before .before .before .before .before .before .before .before .before .before .before .loop .regs .p - 2) 0) ((spot-within (c .before .before .before .before .before .before .before .before .before .before .before .before .before .before .before .before .before .before .before .before .before .before .before .before .before .before .before .args .reach) (widthOf (c .before .before .before .before .before .before .before .before .before .before .before .before .before .before .before .before .fetched .given .0 .0)) (c .before .before .before .before .before .before .before .before .before .before .before .reach2 .ensures .1) (c .before .before .before .before .before .before .before .before .before .reached2 .given .1 ∙ ap reached.At (c .before .before .before .before .before .before .spot9 .given .1))) .0) (c .before .before .set-cell .ensures (c .before .before .before .before .before .before .before .before .before .before .before .before .before .before .before .before .before .before .before .before .before .before .before .before .before .loop .copies) (c .before .before .before .before .before .before .before .before .before .before .before .before .before .before .before .before .before .before .before .before .before .before .before .before .before .loop .regs .s) (omega (arith, (c .before .before .before .before .before .before .before .before .before .before .before .before .before .before .before .before .before .before .before .before .before .before .before .before .before .loop .inv .0) .s-within)) (c .before .before .before .before .before .before .before .before .before .before .before .before .before .before .before .before .before .before .before .before .before .before .before .before .before .loop .inv .1 .1 .0))) .note-is); r-rises = omega arith; s-rises = omega arith }) (c .before .price16 .ensures .0) (c .counted17 .ensures .0), (c .before .before .before .before .before .before .before .before .before .before .before .before .before .before .before .before .before .before .before .before .before .before .before .before .before .loop .inv .1 .0, ((kept-whole (found (c .before .before .before .before .before .before .before .before .before .before .before .before .before .before .before)) (widthOf (c .before .before .before .before .before .before .before .before .before .before .before .before .before .before .before .before .fetched .given .0 .0)) (4 * (localsCount + c .before .before .before .before .before .before .spot9 .given .0 .0)) (getD (c .before .before .before .before .before .before .before .before .before .before .before .before .before .before .before .before .before .before .before .before .before .before .before .before .before .loop .cells) (c .before .before .before .before .before .before .before .before .before .before .before .before .before .before .before .before .before .before .before .before .before .before .before .before .before .loop .regs .p - 2) 0) ((spot-within (c .before .before .before .before .before .before .before .before .before .before .before .before .before .before .before .before .before .before .before .before .before .before .before .before .before .before .before .args .reach) (widthOf (c .before .before .before .before .before .before .before .before .before .before .before .before .before .before .before .before .fetched .given .0 .0)) (c .before .before .before .before .before .before .before .before .before .before .before .reach2 .ensures .1) (c .before .before .before .before .before .before .before .before .before .reached2 .given .1 ∙ ap reached.At (c .before .before .before .before .before .before .spot9 .given .1))) .0) (c .before .before .set-cell .ensures (c .before .before .before .before .before .before .before .before .before .before .before .before .before .before .before .before .before .before .before .before .before .before .before .before .before .loop .copies) (c .before .before .before .before .before .before .before .before .before .before .before .before .before .before .before .before .before .before .before .before .before .before .before .before .before .loop .regs .s) (omega (arith, (c .before .before .before .before .before .before .before .before .before .before .before .before .before .before .before .before .before .before .before .before .before .before .before .before .before .loop .inv .0) .s-within)) (c .before .before .before .before .before .before .before .before .before .before .before .before .before .before .before .before .before .before .before .before .before .before .before .before .before .loop .inv .1 .1 .0))) .laid, (ap (λ (n : Note). n .lost % 2 ^ 32) ((kept-whole (found (c .before .before .before .before .before .before .before .before .before .before .before .before .before .before .before)) (widthOf (c .before .before .before .before .before .before .before .before .before .before .before .before .before .before .before .before .fetched .given .0 .0)) (4 * (localsCount + c .before .before .before .before .before .before .spot9 .given .0 .0)) (getD (c .before .before .before .before .before .before .before .before .before .before .before .before .before .before .before .before .before .before .before .before .before .before .before .before .before .loop .cells) (c .before .before .before .before .before .before .before .before .before .before .before .before .before .before .before .before .before .before .before .before .before .before .before .before .before .loop .regs .p - 2) 0) ((spot-within (c .before .before .before .before .before .before .before .before .before .before .before .before .before .before .before .before .before .before .before .before .before .before .before .before .before .before .before .args .reach) (widthOf (c .before .before .before .before .before .before .before .before .before .before .before .before .before .before .before .before .fetched .given .0 .0)) (c .before .before .before .before .before .before .before .before .before .before .before .reach2 .ensures .1) (c .before .before .before .before .before .before .before .before .before .reached2 .given .1 ∙ ap reached.At (c .before .before .before .before .before .before .spot9 .given .1))) .0) (c .before .before .set-cell .ensures (c .before .before .before .before .before .before .before .before .before .before .before .before .before .before .before .before .before .before .before .before .before .before .before .before .before .loop .copies) (c .before .before .before .before .before .before .before .before .before .before .before .before .before .before .before .before .before .before .before .before .before .before .before .before .before .loop .regs .s) (omega (arith, (c .before .before .before .before .before .before .before .before .before .before .before .before .before .before .before .before .before .before .before .before .before .before .before .before .before .loop .inv .0) .s-within)) (c .before .before .before .before .before .before .before .before .before .before .before .before .before .before .before .before .before .before .before .before .before .before .before .before .before .loop .inv .1 .1 .0))) .note-is) ∙ (c .before .before .before .before .before .before .before .before .before .before .before .before .before .before .before .before .before .before .before .before .before .before .before .before .before .loop .inv .1 .1 .1 .0), ((ap (λ (n : Note). n .heeds) ((kept-whole (found (c .before .before .before .before .before .before .before .before .before .before .before .before .before .before .before)) (widthOf (c .before .before .before .before .before .before .before .before .before .before .before .before .before .before .before .before .fetched .given .0 .0)) (4 * (localsCount + c .before .before .before .before .before .before .spot9 .given .0 .0)) (getD (c .before .before .before .before .before .before .before .before .before .before .before .before .before .before .before .before .before .before .before .before .before .before .before .before .before .loop .cells) (c .before .before .before .before .before .before .before .before .before .before .before .before .before .before .before .before .before .before .before .before .before .before .before .before .before .loop .regs .p - 2) 0) ((spot-within (c .before .before .before .before .before .before .before .before .before .before .before .before .before .before .before .before .before .before .before .before .before .before .before .before .before .before .before .args .reach) (widthOf (c .before .before .before .before .before .before .before .before .before .before .before .before .before .before .before .before .fetched .given .0 .0)) (c .before .before .before .before .before .before .before .before .before .before .before .reach2 .ensures .1) (c .before .before .before .before .before .before .before .before .before .reached2 .given .1 ∙ ap reached.At (c .before .before .before .before .before .before .spot9 .given .1))) .0) (c .before .before .set-cell .ensures (c .before .before .before .before .before .before .before .before .before .before .before .before .before .before .before .before .before .before .before .before .before .before .before .before .before .loop .copies) (c .before .before .before .before .before .before .before .before .before .before .before .before .before .before .before .before .before .before .before .before .before .before .before .before .before .loop .regs .s) (omega (arith, (c .before .before .before .before .before .before .before .before .before .before .before .before .before .before .before .before .before .before .before .before .before .before .before .before .before .loop .inv .0) .s-within)) (c .before .before .before .before .before .before .before .before .before .before .before .before .before .before .before .before .before .before .before .before .before .before .before .before .before .loop .inv .1 .1 .0))) .note-is) ∙ (c .before .before .before .before .before .before .before .before .before .before .before .before .before .before .before .before .before .before .before .before .before .before .before .before .before .loop .inv .1 .1 .1 .1 .0)), (ap (λ (n : Note). lowestDue (n .aside .lines)) ((kept-whole (found (c .before .before .before .before .before .before .before .before .before .before .before .before .before .before .before)) (widthOf (c .before .before .before .before .before .before .before .before .before .before .before .before .before .before .before .before .fetched .given .0 .0)) (4 * (localsCount + c .before .before .before .before .before .before .spot9 .given .0 .0)) (getD (c .before .before .before .before .before .before .before .before .before .before .before .before .before .before .before .before .before .before .before .before .before .before .before .before .before .loop .cells) (c .before .before .before .before .before .before .before .before .before .before .before .before .before .before .before .before .before .before .before .before .before .before .before .before .before .loop .regs .p - 2) 0) ((spot-within (c .before .before .before .before .before .before .before .before .before .before .before .before .before .before .before .before .before .before .before .before .before .before .before .before .before .before .before .args .reach) (widthOf (c .before .before .before .before .before .before .before .before .before .before .before .before .before .before .before .before .fetched .given .0 .0)) (c .before .before .before .before .before .before .before .before .before .before .before .reach2 .ensures .1) (c .before .before .before .before .before .before .before .before .before .reached2 .given .1 ∙ ap reached.At (c .before .before .before .before .before .before .spot9 .given .1))) .0) (c .before .before .set-cell .ensures (c .before .before .before .before .before .before .before .before .before .before .before .before .before .before .before .before .before .before .before .before .before .before .before .before .before .loop .copies) (c .before .before .before .before .before .before .before .before .before .before .before .before .before .before .before .before .before .before .before .before .before .before .before .before .before .loop .regs .s) (omega (arith, (c .before .before .before .before .before .before .before .before .before .before .before .before .before .before .before .before .before .before .before .before .before .before .before .before .before .loop .inv .0) .s-within)) (c .before .before .before .before .before .before .before .before .before .before .before .before .before .before .before .before .before .before .before .before .before .before .before .before .before .loop .inv .1 .1 .0))) .note-is) ∙ (c .before .before .before .before .before .before .before .before .before .before .before .before .before .before .before .before .before .before .before .before .before .before .before .before .before .loop .inv .1 .1 .1 .1 .1)))))))
 
 enum-known-spot-10 : tie.Need-enum-known-spot-10 Inv-loop μ-loop
 enum-known-spot-10 c = search needs
@@ -785,7 +806,7 @@ loop-less-28 : tie.Need-loop-less-28 Inv-loop μ-loop
 loop-less-28 c = omega (arith, c .counted18 .ensures .1)
 
 loop-again-28 : tie.Need-loop-again-28 Inv-loop μ-loop
-loop-again-28 c = (goes (found (c .before .before .before .before .before .before .before .before .before .before .before .before .before .before .before)) (store-acts (found (c .before .before .before .before .before .before .before .before .before .before .before .before .before .before .before)) (inl (c .before .before .before .before .before .before .before .before .before .before .before .before .before .match3 .keys8))) (told saysReached (c .before .before .before .before .before .before .before .before .before .before .before .reach2 .ensures .0) (c .before .before .before .before .before .before .before .before .before .reached2 .given .1 ∙ ap reached.At (c .before .before .before .before .before .before .spot10 .given .1))) (held-there (c .before .before .write-in-view .ensures (c .before .before .before .before .before .before .before .before .before .before .before .before .before .before .before .before .before .before .before .before .before .before .before .before .before .loop .copies) (c .before .before .before .before .before .before .before .before .before .before .before .before .before .before .before .before .before .before .before .before .before .before .before .before .before .loop .inv .1 .1 .0))) refl (c .before .price17 .ensures .0) (c .counted18 .ensures .0), (c .before .before .before .before .before .before .before .before .before .before .before .before .before .before .before .before .before .before .before .before .before .before .before .before .before .loop .inv .1 .0, ((c .before .before .write-in-view .ensures (c .before .before .before .before .before .before .before .before .before .before .before .before .before .before .before .before .before .before .before .before .before .before .before .before .before .loop .copies) (c .before .before .before .before .before .before .before .before .before .before .before .before .before .before .before .before .before .before .before .before .before .before .before .before .before .loop .inv .1 .1 .0)) .laid, ap (λ (n : Note). n .lost % 2 ^ 32) ((c .before .before .write-in-view .ensures (c .before .before .before .before .before .before .before .before .before .before .before .before .before .before .before .before .before .before .before .before .before .before .before .before .before .loop .copies) (c .before .before .before .before .before .before .before .before .before .before .before .before .before .before .before .before .before .before .before .before .before .before .before .before .before .loop .inv .1 .1 .0)) .note-is) ∙ (c .before .before .before .before .before .before .before .before .before .before .before .before .before .before .before .before .before .before .before .before .before .before .before .before .before .loop .inv .1 .1 .1))))
+loop-again-28 c = (goes (found (c .before .before .before .before .before .before .before .before .before .before .before .before .before .before .before)) (store-acts (found (c .before .before .before .before .before .before .before .before .before .before .before .before .before .before .before)) (inl (c .before .before .before .before .before .before .before .before .before .before .before .before .before .match3 .keys8))) (told saysReached (c .before .before .before .before .before .before .before .before .before .before .before .reach2 .ensures .0) (c .before .before .before .before .before .before .before .before .before .reached2 .given .1 ∙ ap reached.At (c .before .before .before .before .before .before .spot10 .given .1))) (held-there (c .before .before .write-in-view .ensures (c .before .before .before .before .before .before .before .before .before .before .before .before .before .before .before .before .before .before .before .before .before .before .before .before .before .loop .copies) (c .before .before .before .before .before .before .before .before .before .before .before .before .before .before .before .before .before .before .before .before .before .before .before .before .before .loop .inv .1 .1 .0))) refl (record { lines-same = ap (λ (n : Note). n .aside .lines) ((c .before .before .write-in-view .ensures (c .before .before .before .before .before .before .before .before .before .before .before .before .before .before .before .before .before .before .before .before .before .before .before .before .before .loop .copies) (c .before .before .before .before .before .before .before .before .before .before .before .before .before .before .before .before .before .before .before .before .before .before .before .before .before .loop .inv .1 .1 .0)) .note-is); r-rises = omega arith; s-rises = omega arith }) (c .before .price17 .ensures .0) (c .counted18 .ensures .0), (c .before .before .before .before .before .before .before .before .before .before .before .before .before .before .before .before .before .before .before .before .before .before .before .before .before .loop .inv .1 .0, ((c .before .before .write-in-view .ensures (c .before .before .before .before .before .before .before .before .before .before .before .before .before .before .before .before .before .before .before .before .before .before .before .before .before .loop .copies) (c .before .before .before .before .before .before .before .before .before .before .before .before .before .before .before .before .before .before .before .before .before .before .before .before .before .loop .inv .1 .1 .0)) .laid, (ap (λ (n : Note). n .lost % 2 ^ 32) ((c .before .before .write-in-view .ensures (c .before .before .before .before .before .before .before .before .before .before .before .before .before .before .before .before .before .before .before .before .before .before .before .before .before .loop .copies) (c .before .before .before .before .before .before .before .before .before .before .before .before .before .before .before .before .before .before .before .before .before .before .before .before .before .loop .inv .1 .1 .0)) .note-is) ∙ (c .before .before .before .before .before .before .before .before .before .before .before .before .before .before .before .before .before .before .before .before .before .before .before .before .before .loop .inv .1 .1 .1 .0), ((ap (λ (n : Note). n .heeds) ((c .before .before .write-in-view .ensures (c .before .before .before .before .before .before .before .before .before .before .before .before .before .before .before .before .before .before .before .before .before .before .before .before .before .loop .copies) (c .before .before .before .before .before .before .before .before .before .before .before .before .before .before .before .before .before .before .before .before .before .before .before .before .before .loop .inv .1 .1 .0)) .note-is) ∙ (c .before .before .before .before .before .before .before .before .before .before .before .before .before .before .before .before .before .before .before .before .before .before .before .before .before .loop .inv .1 .1 .1 .1 .0)), (ap (λ (n : Note). lowestDue (n .aside .lines)) ((c .before .before .write-in-view .ensures (c .before .before .before .before .before .before .before .before .before .before .before .before .before .before .before .before .before .before .before .before .before .before .before .before .before .loop .copies) (c .before .before .before .before .before .before .before .before .before .before .before .before .before .before .before .before .before .before .before .before .before .before .before .before .before .loop .inv .1 .1 .0)) .note-is) ∙ (c .before .before .before .before .before .before .before .before .before .before .before .before .before .before .before .before .before .before .before .before .before .before .before .before .before .loop .inv .1 .1 .1 .1 .1)))))))
 
 reach-requires-3 : tie.Need-reach-requires-3 Inv-loop μ-loop
 reach-requires-3 c κs = (omega arith, ((c .before .before .before .before .before .before .before .before .before .before .before .before .before .loop .inv .0) .p-within, c .before .before .before .before .before .before .before .before .before .before .before .before .before .before .before .pre .bounded .shared-within))
@@ -836,7 +857,7 @@ loop-less-30 : tie.Need-loop-less-30 Inv-loop μ-loop
 loop-less-30 c = omega (arith, c .counted19 .ensures .1)
 
 loop-again-30 : tie.Need-loop-again-30 Inv-loop μ-loop
-loop-again-30 c = (goes (found (c .before .before .before .before .before .before .before .before .before .before .before .before .before .before .before .before .before .before .before)) (store-acts (found (c .before .before .before .before .before .before .before .before .before .before .before .before .before .before .before .before .before .before .before)) (inr (c .before .before .before .before .before .before .before .before .before .before .before .before .before .before .before .before .before .match3 .keys9))) (told saysReached (c .before .before .before .before .before .before .before .before .before .before .before .before .before .before .before .reach3 .ensures .0) (c .before .before .before .before .before .before .before .before .before .before .before .before .before .reached3 .given .1 ∙ ap reached.At (c .before .before .before .before .before .before .before .before .before .before .spot11 .given .1))) (written-there (found (c .before .before .before .before .before .before .before .before .before .before .before .before .before .before .before .before .before .before .before)) (widthOf (c .before .before .before .before .before .before .before .before .before .before .before .before .before .before .before .before .before .before .before .before .fetched .given .0 .0)) (c .before .before .before .before .before .before .before .before .before .before .spot11 .given .0 .0) (c .before .before .before .before .before .before .store-number2 .ensures .written) ∙ held-there (c .before .before .lose3 .ensures (c .before .before .before .before .before .before .before .before .before .before .before .before .before .before .before .before .before .before .before .before .before .before .before .before .before .before .before .before .before .loop .copies) (c .before .before .before .before .before .before .before .before .before .before .before .before .before .before .before .before .before .before .before .before .before .before .before .before .before .before .before .before .before .loop .inv .1 .1 .0))) refl (c .before .price18 .ensures .0) (c .counted19 .ensures .0), (c .before .before .before .before .before .before .before .before .before .before .before .before .before .before .before .before .before .before .before .before .before .before .before .before .before .before .before .before .before .loop .inv .1 .0, ((c .before .before .lose3 .ensures (c .before .before .before .before .before .before .before .before .before .before .before .before .before .before .before .before .before .before .before .before .before .before .before .before .before .before .before .before .before .loop .copies) (c .before .before .before .before .before .before .before .before .before .before .before .before .before .before .before .before .before .before .before .before .before .before .before .before .before .before .before .before .before .loop .inv .1 .1 .0)) .laid, (stored-loses (size (widthOf (c .before .before .before .before .before .before .before .before .before .before .before .before .before .before .before .before .before .before .before .before .fetched .given .0 .0))) (getD (c .before .before .before .before .before .before .before .before .before .before .before .before .before .before .before .before .before .before .before .before .before .before .before .before .before .before .before .before .before .loop .cells) (c .before .before .before .before .before .before .before .before .before .before .before .before .before .before .before .before .before .before .before .before .before .before .before .before .before .before .before .before .before .loop .regs .p - 2) 0) (noteIn (c .before .before .before .before .before .before .before .before .before .before .before .before .before .before .before .before .before .before .before .before .before .before .before .before .before .before .before .before .before .before .before .args .rows .now) .lost) (c .before .before .before .before .before .before .before .before .before .before .before .before .before .before .before .before .before .before .before .before .before .before .before .before .before .before .before .before .before .before .before .args .mem .now) (c .before .before .before .before .before .before .before .before .before .before .before .before .before .before .before .before .before .before .before .before .before .before .before .before .before .before .before .before .before .loop .mem) (c .before .before .before .before .before .before .store-number2 .last .0) (c .before .before .before .before .before .before .before .before .before .before .spot11 .given .0 .0) (noteIn (c .before .before .before .before .before .before .before .before .before .before .before .before .before .before .before .before .before .before .before .before .before .before .before .before .before .before .before .before .before .loop .rows) .lost) (c .before .before .before .before .before .before .store-number2 .result) (size-few (widthOf (c .before .before .before .before .before .before .before .before .before .before .before .before .before .before .before .before .before .before .before .before .fetched .given .0 .0))) (omega (arith, memory-room (c .before .before .before .before .before .before .before .before .before .before .before .before .before .before .before .before .before .before .before .before .before .before .before .before .before .before .before .before .before .before .before .args .reach) (widthOf (c .before .before .before .before .before .before .before .before .before .before .before .before .before .before .before .before .before .before .before .before .fetched .given .0 .0)) (c .before .before .before .before .before .before .before .before .before .before .before .before .before .before .before .before .before .before .before .before .before .before .before .before .before .before .before .before .before .loop .cells) (told saysReached (c .before .before .before .before .before .before .before .before .before .before .before .before .before .before .before .reach3 .ensures .0) (c .before .before .before .before .before .before .before .before .before .before .before .before .before .reached3 .given .1 ∙ ap reached.At (c .before .before .before .before .before .before .before .before .before .before .spot11 .given .1))), (c .before .before .before .before .before .before .before .before .before .before .before .before .before .before .before .before .before .before .before .before .before .before .before .before .before .before .before .before .before .loop .inv .0) .long)) (c .before .before .before .before .before .before .store-number2 .ensures) (c .before .before .before .before .before .before .before .before .before .before .before .before .before .before .before .before .before .before .before .before .before .before .before .before .before .before .before .before .before .loop .inv .1 .1 .1) (ap (λ (n : Note). n .lost) ((c .before .before .lose3 .ensures (c .before .before .before .before .before .before .before .before .before .before .before .before .before .before .before .before .before .before .before .before .before .before .before .before .before .before .before .before .before .loop .copies) (c .before .before .before .before .before .before .before .before .before .before .before .before .before .before .before .before .before .before .before .before .before .before .before .before .before .before .before .before .before .loop .inv .1 .1 .0)) .note-is))))))
+loop-again-30 c = (goes (found (c .before .before .before .before .before .before .before .before .before .before .before .before .before .before .before .before .before .before .before)) (store-acts (found (c .before .before .before .before .before .before .before .before .before .before .before .before .before .before .before .before .before .before .before)) (inr (c .before .before .before .before .before .before .before .before .before .before .before .before .before .before .before .before .before .match3 .keys9))) (told saysReached (c .before .before .before .before .before .before .before .before .before .before .before .before .before .before .before .reach3 .ensures .0) (c .before .before .before .before .before .before .before .before .before .before .before .before .before .reached3 .given .1 ∙ ap reached.At (c .before .before .before .before .before .before .before .before .before .before .spot11 .given .1))) (written-there (found (c .before .before .before .before .before .before .before .before .before .before .before .before .before .before .before .before .before .before .before)) (widthOf (c .before .before .before .before .before .before .before .before .before .before .before .before .before .before .before .before .before .before .before .before .fetched .given .0 .0)) (c .before .before .before .before .before .before .before .before .before .before .spot11 .given .0 .0) (c .before .before .before .before .before .before .store-number2 .ensures .written) ∙ held-there (c .before .before .lose3 .ensures (c .before .before .before .before .before .before .before .before .before .before .before .before .before .before .before .before .before .before .before .before .before .before .before .before .before .before .before .before .before .loop .copies) (c .before .before .before .before .before .before .before .before .before .before .before .before .before .before .before .before .before .before .before .before .before .before .before .before .before .before .before .before .before .loop .inv .1 .1 .0))) refl (record { lines-same = ap (λ (n : Note). n .aside .lines) ((c .before .before .lose3 .ensures (c .before .before .before .before .before .before .before .before .before .before .before .before .before .before .before .before .before .before .before .before .before .before .before .before .before .before .before .before .before .loop .copies) (c .before .before .before .before .before .before .before .before .before .before .before .before .before .before .before .before .before .before .before .before .before .before .before .before .before .before .before .before .before .loop .inv .1 .1 .0)) .note-is); r-rises = omega arith; s-rises = omega arith }) (c .before .price18 .ensures .0) (c .counted19 .ensures .0), (c .before .before .before .before .before .before .before .before .before .before .before .before .before .before .before .before .before .before .before .before .before .before .before .before .before .before .before .before .before .loop .inv .1 .0, ((c .before .before .lose3 .ensures (c .before .before .before .before .before .before .before .before .before .before .before .before .before .before .before .before .before .before .before .before .before .before .before .before .before .before .before .before .before .loop .copies) (c .before .before .before .before .before .before .before .before .before .before .before .before .before .before .before .before .before .before .before .before .before .before .before .before .before .before .before .before .before .loop .inv .1 .1 .0)) .laid, ((stored-loses (size (widthOf (c .before .before .before .before .before .before .before .before .before .before .before .before .before .before .before .before .before .before .before .before .fetched .given .0 .0))) (getD (c .before .before .before .before .before .before .before .before .before .before .before .before .before .before .before .before .before .before .before .before .before .before .before .before .before .before .before .before .before .loop .cells) (c .before .before .before .before .before .before .before .before .before .before .before .before .before .before .before .before .before .before .before .before .before .before .before .before .before .before .before .before .before .loop .regs .p - 2) 0) (noteIn (c .before .before .before .before .before .before .before .before .before .before .before .before .before .before .before .before .before .before .before .before .before .before .before .before .before .before .before .before .before .before .before .args .rows .now) .lost) (c .before .before .before .before .before .before .before .before .before .before .before .before .before .before .before .before .before .before .before .before .before .before .before .before .before .before .before .before .before .before .before .args .mem .now) (c .before .before .before .before .before .before .before .before .before .before .before .before .before .before .before .before .before .before .before .before .before .before .before .before .before .before .before .before .before .loop .mem) (c .before .before .before .before .before .before .store-number2 .last .0) (c .before .before .before .before .before .before .before .before .before .before .spot11 .given .0 .0) (noteIn (c .before .before .before .before .before .before .before .before .before .before .before .before .before .before .before .before .before .before .before .before .before .before .before .before .before .before .before .before .before .loop .rows) .lost) (c .before .before .before .before .before .before .store-number2 .result) (size-few (widthOf (c .before .before .before .before .before .before .before .before .before .before .before .before .before .before .before .before .before .before .before .before .fetched .given .0 .0))) (omega (arith, memory-room (c .before .before .before .before .before .before .before .before .before .before .before .before .before .before .before .before .before .before .before .before .before .before .before .before .before .before .before .before .before .before .before .args .reach) (widthOf (c .before .before .before .before .before .before .before .before .before .before .before .before .before .before .before .before .before .before .before .before .fetched .given .0 .0)) (c .before .before .before .before .before .before .before .before .before .before .before .before .before .before .before .before .before .before .before .before .before .before .before .before .before .before .before .before .before .loop .cells) (told saysReached (c .before .before .before .before .before .before .before .before .before .before .before .before .before .before .before .reach3 .ensures .0) (c .before .before .before .before .before .before .before .before .before .before .before .before .before .reached3 .given .1 ∙ ap reached.At (c .before .before .before .before .before .before .before .before .before .before .spot11 .given .1))), (c .before .before .before .before .before .before .before .before .before .before .before .before .before .before .before .before .before .before .before .before .before .before .before .before .before .before .before .before .before .loop .inv .0) .long)) (c .before .before .before .before .before .before .store-number2 .ensures) (c .before .before .before .before .before .before .before .before .before .before .before .before .before .before .before .before .before .before .before .before .before .before .before .before .before .before .before .before .before .loop .inv .1 .1 .1 .0) (ap (λ (n : Note). n .lost) ((c .before .before .lose3 .ensures (c .before .before .before .before .before .before .before .before .before .before .before .before .before .before .before .before .before .before .before .before .before .before .before .before .before .before .before .before .before .loop .copies) (c .before .before .before .before .before .before .before .before .before .before .before .before .before .before .before .before .before .before .before .before .before .before .before .before .before .before .before .before .before .loop .inv .1 .1 .0)) .note-is))), ((ap (λ (n : Note). n .heeds) ((c .before .before .lose3 .ensures (c .before .before .before .before .before .before .before .before .before .before .before .before .before .before .before .before .before .before .before .before .before .before .before .before .before .before .before .before .before .loop .copies) (c .before .before .before .before .before .before .before .before .before .before .before .before .before .before .before .before .before .before .before .before .before .before .before .before .before .before .before .before .before .loop .inv .1 .1 .0)) .note-is) ∙ (c .before .before .before .before .before .before .before .before .before .before .before .before .before .before .before .before .before .before .before .before .before .before .before .before .before .before .before .before .before .loop .inv .1 .1 .1 .1 .0)), (ap (λ (n : Note). lowestDue (n .aside .lines)) ((c .before .before .lose3 .ensures (c .before .before .before .before .before .before .before .before .before .before .before .before .before .before .before .before .before .before .before .before .before .before .before .before .before .before .before .before .before .loop .copies) (c .before .before .before .before .before .before .before .before .before .before .before .before .before .before .before .before .before .before .before .before .before .before .before .before .before .before .before .before .before .loop .inv .1 .1 .0)) .note-is) ∙ (c .before .before .before .before .before .before .before .before .before .before .before .before .before .before .before .before .before .before .before .before .before .before .before .before .before .before .before .before .before .loop .inv .1 .1 .1 .1 .1)))))))
 
 enum-known-spot-12 : tie.Need-enum-known-spot-12 Inv-loop μ-loop
 enum-known-spot-12 c = search needs
@@ -869,7 +890,7 @@ loop-less-31 : tie.Need-loop-less-31 Inv-loop μ-loop
 loop-less-31 c = omega (arith, c .counted20 .ensures .1)
 
 loop-again-31 : tie.Need-loop-again-31 Inv-loop μ-loop
-loop-again-31 c = (goes (found (c .before .before .before .before .before .before .before .before .before .before .before .before .before .before .before .before .before .before .before)) (store-acts (found (c .before .before .before .before .before .before .before .before .before .before .before .before .before .before .before .before .before .before .before)) (inr (c .before .before .before .before .before .before .before .before .before .before .before .before .before .before .before .before .before .match3 .keys9))) (told saysReached (c .before .before .before .before .before .before .before .before .before .before .before .before .before .before .before .reach3 .ensures .0) (c .before .before .before .before .before .before .before .before .before .before .before .before .before .reached3 .given .1 ∙ ap reached.At (c .before .before .before .before .before .before .before .before .before .before .spot12 .given .1))) (written-there (found (c .before .before .before .before .before .before .before .before .before .before .before .before .before .before .before .before .before .before .before)) (widthOf (c .before .before .before .before .before .before .before .before .before .before .before .before .before .before .before .before .before .before .before .before .fetched .given .0 .0)) (c .before .before .before .before .before .before .before .before .before .before .spot12 .given .0 .0) (c .before .before .before .before .before .before .store-own2 .ensures .written) ∙ held-there (c .before .before .lose4 .ensures (c .before .before .before .before .before .before .before .before .before .before .before .before .before .before .before .before .before .before .before .before .before .before .before .before .before .before .before .before .before .loop .copies) (c .before .before .before .before .before .before .before .before .before .before .before .before .before .before .before .before .before .before .before .before .before .before .before .before .before .before .before .before .before .loop .inv .1 .1 .0))) refl (c .before .price19 .ensures .0) (c .counted20 .ensures .0), (c .before .before .before .before .before .before .before .before .before .before .before .before .before .before .before .before .before .before .before .before .before .before .before .before .before .before .before .before .before .loop .inv .1 .0, ((c .before .before .lose4 .ensures (c .before .before .before .before .before .before .before .before .before .before .before .before .before .before .before .before .before .before .before .before .before .before .before .before .before .before .before .before .before .loop .copies) (c .before .before .before .before .before .before .before .before .before .before .before .before .before .before .before .before .before .before .before .before .before .before .before .before .before .before .before .before .before .loop .inv .1 .1 .0)) .laid, (stored-loses (size (widthOf (c .before .before .before .before .before .before .before .before .before .before .before .before .before .before .before .before .before .before .before .before .fetched .given .0 .0))) (getD (c .before .before .before .before .before .before .before .before .before .before .before .before .before .before .before .before .before .before .before .before .before .before .before .before .before .before .before .before .before .loop .cells) (c .before .before .before .before .before .before .before .before .before .before .before .before .before .before .before .before .before .before .before .before .before .before .before .before .before .before .before .before .before .loop .regs .p - 2) 0) (noteIn (c .before .before .before .before .before .before .before .before .before .before .before .before .before .before .before .before .before .before .before .before .before .before .before .before .before .before .before .before .before .before .before .args .rows .now) .lost) (c .before .before .before .before .before .before .before .before .before .before .before .before .before .before .before .before .before .before .before .before .before .before .before .before .before .before .before .before .before .before .before .args .mem .now) (c .before .before .before .before .before .before .before .before .before .before .before .before .before .before .before .before .before .before .before .before .before .before .before .before .before .before .before .before .before .loop .mem) (c .before .before .before .before .before .before .store-own2 .last .0) (c .before .before .before .before .before .before .before .before .before .before .spot12 .given .0 .0) (noteIn (c .before .before .before .before .before .before .before .before .before .before .before .before .before .before .before .before .before .before .before .before .before .before .before .before .before .before .before .before .before .loop .rows) .lost) (c .before .before .before .before .before .before .store-own2 .result) (size-few (widthOf (c .before .before .before .before .before .before .before .before .before .before .before .before .before .before .before .before .before .before .before .before .fetched .given .0 .0))) (omega (arith, memory-room (c .before .before .before .before .before .before .before .before .before .before .before .before .before .before .before .before .before .before .before .before .before .before .before .before .before .before .before .before .before .before .before .args .reach) (widthOf (c .before .before .before .before .before .before .before .before .before .before .before .before .before .before .before .before .before .before .before .before .fetched .given .0 .0)) (c .before .before .before .before .before .before .before .before .before .before .before .before .before .before .before .before .before .before .before .before .before .before .before .before .before .before .before .before .before .loop .cells) (told saysReached (c .before .before .before .before .before .before .before .before .before .before .before .before .before .before .before .reach3 .ensures .0) (c .before .before .before .before .before .before .before .before .before .before .before .before .before .reached3 .given .1 ∙ ap reached.At (c .before .before .before .before .before .before .before .before .before .before .spot12 .given .1))), (c .before .before .before .before .before .before .before .before .before .before .before .before .before .before .before .before .before .before .before .before .before .before .before .before .before .before .before .before .before .loop .inv .0) .long)) (c .before .before .before .before .before .before .store-own2 .ensures) (c .before .before .before .before .before .before .before .before .before .before .before .before .before .before .before .before .before .before .before .before .before .before .before .before .before .before .before .before .before .loop .inv .1 .1 .1) (ap (λ (n : Note). n .lost) ((c .before .before .lose4 .ensures (c .before .before .before .before .before .before .before .before .before .before .before .before .before .before .before .before .before .before .before .before .before .before .before .before .before .before .before .before .before .loop .copies) (c .before .before .before .before .before .before .before .before .before .before .before .before .before .before .before .before .before .before .before .before .before .before .before .before .before .before .before .before .before .loop .inv .1 .1 .0)) .note-is))))))
+loop-again-31 c = (goes (found (c .before .before .before .before .before .before .before .before .before .before .before .before .before .before .before .before .before .before .before)) (store-acts (found (c .before .before .before .before .before .before .before .before .before .before .before .before .before .before .before .before .before .before .before)) (inr (c .before .before .before .before .before .before .before .before .before .before .before .before .before .before .before .before .before .match3 .keys9))) (told saysReached (c .before .before .before .before .before .before .before .before .before .before .before .before .before .before .before .reach3 .ensures .0) (c .before .before .before .before .before .before .before .before .before .before .before .before .before .reached3 .given .1 ∙ ap reached.At (c .before .before .before .before .before .before .before .before .before .before .spot12 .given .1))) (written-there (found (c .before .before .before .before .before .before .before .before .before .before .before .before .before .before .before .before .before .before .before)) (widthOf (c .before .before .before .before .before .before .before .before .before .before .before .before .before .before .before .before .before .before .before .before .fetched .given .0 .0)) (c .before .before .before .before .before .before .before .before .before .before .spot12 .given .0 .0) (c .before .before .before .before .before .before .store-own2 .ensures .written) ∙ held-there (c .before .before .lose4 .ensures (c .before .before .before .before .before .before .before .before .before .before .before .before .before .before .before .before .before .before .before .before .before .before .before .before .before .before .before .before .before .loop .copies) (c .before .before .before .before .before .before .before .before .before .before .before .before .before .before .before .before .before .before .before .before .before .before .before .before .before .before .before .before .before .loop .inv .1 .1 .0))) refl (record { lines-same = ap (λ (n : Note). n .aside .lines) ((c .before .before .lose4 .ensures (c .before .before .before .before .before .before .before .before .before .before .before .before .before .before .before .before .before .before .before .before .before .before .before .before .before .before .before .before .before .loop .copies) (c .before .before .before .before .before .before .before .before .before .before .before .before .before .before .before .before .before .before .before .before .before .before .before .before .before .before .before .before .before .loop .inv .1 .1 .0)) .note-is); r-rises = omega arith; s-rises = omega arith }) (c .before .price19 .ensures .0) (c .counted20 .ensures .0), (c .before .before .before .before .before .before .before .before .before .before .before .before .before .before .before .before .before .before .before .before .before .before .before .before .before .before .before .before .before .loop .inv .1 .0, ((c .before .before .lose4 .ensures (c .before .before .before .before .before .before .before .before .before .before .before .before .before .before .before .before .before .before .before .before .before .before .before .before .before .before .before .before .before .loop .copies) (c .before .before .before .before .before .before .before .before .before .before .before .before .before .before .before .before .before .before .before .before .before .before .before .before .before .before .before .before .before .loop .inv .1 .1 .0)) .laid, ((stored-loses (size (widthOf (c .before .before .before .before .before .before .before .before .before .before .before .before .before .before .before .before .before .before .before .before .fetched .given .0 .0))) (getD (c .before .before .before .before .before .before .before .before .before .before .before .before .before .before .before .before .before .before .before .before .before .before .before .before .before .before .before .before .before .loop .cells) (c .before .before .before .before .before .before .before .before .before .before .before .before .before .before .before .before .before .before .before .before .before .before .before .before .before .before .before .before .before .loop .regs .p - 2) 0) (noteIn (c .before .before .before .before .before .before .before .before .before .before .before .before .before .before .before .before .before .before .before .before .before .before .before .before .before .before .before .before .before .before .before .args .rows .now) .lost) (c .before .before .before .before .before .before .before .before .before .before .before .before .before .before .before .before .before .before .before .before .before .before .before .before .before .before .before .before .before .before .before .args .mem .now) (c .before .before .before .before .before .before .before .before .before .before .before .before .before .before .before .before .before .before .before .before .before .before .before .before .before .before .before .before .before .loop .mem) (c .before .before .before .before .before .before .store-own2 .last .0) (c .before .before .before .before .before .before .before .before .before .before .spot12 .given .0 .0) (noteIn (c .before .before .before .before .before .before .before .before .before .before .before .before .before .before .before .before .before .before .before .before .before .before .before .before .before .before .before .before .before .loop .rows) .lost) (c .before .before .before .before .before .before .store-own2 .result) (size-few (widthOf (c .before .before .before .before .before .before .before .before .before .before .before .before .before .before .before .before .before .before .before .before .fetched .given .0 .0))) (omega (arith, memory-room (c .before .before .before .before .before .before .before .before .before .before .before .before .before .before .before .before .before .before .before .before .before .before .before .before .before .before .before .before .before .before .before .args .reach) (widthOf (c .before .before .before .before .before .before .before .before .before .before .before .before .before .before .before .before .before .before .before .before .fetched .given .0 .0)) (c .before .before .before .before .before .before .before .before .before .before .before .before .before .before .before .before .before .before .before .before .before .before .before .before .before .before .before .before .before .loop .cells) (told saysReached (c .before .before .before .before .before .before .before .before .before .before .before .before .before .before .before .reach3 .ensures .0) (c .before .before .before .before .before .before .before .before .before .before .before .before .before .reached3 .given .1 ∙ ap reached.At (c .before .before .before .before .before .before .before .before .before .before .spot12 .given .1))), (c .before .before .before .before .before .before .before .before .before .before .before .before .before .before .before .before .before .before .before .before .before .before .before .before .before .before .before .before .before .loop .inv .0) .long)) (c .before .before .before .before .before .before .store-own2 .ensures) (c .before .before .before .before .before .before .before .before .before .before .before .before .before .before .before .before .before .before .before .before .before .before .before .before .before .before .before .before .before .loop .inv .1 .1 .1 .0) (ap (λ (n : Note). n .lost) ((c .before .before .lose4 .ensures (c .before .before .before .before .before .before .before .before .before .before .before .before .before .before .before .before .before .before .before .before .before .before .before .before .before .before .before .before .before .loop .copies) (c .before .before .before .before .before .before .before .before .before .before .before .before .before .before .before .before .before .before .before .before .before .before .before .before .before .before .before .before .before .loop .inv .1 .1 .0)) .note-is))), ((ap (λ (n : Note). n .heeds) ((c .before .before .lose4 .ensures (c .before .before .before .before .before .before .before .before .before .before .before .before .before .before .before .before .before .before .before .before .before .before .before .before .before .before .before .before .before .loop .copies) (c .before .before .before .before .before .before .before .before .before .before .before .before .before .before .before .before .before .before .before .before .before .before .before .before .before .before .before .before .before .loop .inv .1 .1 .0)) .note-is) ∙ (c .before .before .before .before .before .before .before .before .before .before .before .before .before .before .before .before .before .before .before .before .before .before .before .before .before .before .before .before .before .loop .inv .1 .1 .1 .1 .0)), (ap (λ (n : Note). lowestDue (n .aside .lines)) ((c .before .before .lose4 .ensures (c .before .before .before .before .before .before .before .before .before .before .before .before .before .before .before .before .before .before .before .before .before .before .before .before .before .before .before .before .before .loop .copies) (c .before .before .before .before .before .before .before .before .before .before .before .before .before .before .before .before .before .before .before .before .before .before .before .before .before .before .before .before .before .loop .inv .1 .1 .0)) .note-is) ∙ (c .before .before .before .before .before .before .before .before .before .before .before .before .before .before .before .before .before .before .before .before .before .before .before .before .before .before .before .before .before .loop .inv .1 .1 .1 .1 .1)))))))
 
 enum-known-spot-13 : tie.Need-enum-known-spot-13 Inv-loop μ-loop
 enum-known-spot-13 c = search needs
@@ -899,7 +920,7 @@ loop-less-32 : tie.Need-loop-less-32 Inv-loop μ-loop
 loop-less-32 c = omega (arith, c .counted21 .ensures .1)
 
 loop-again-32 : tie.Need-loop-again-32 Inv-loop μ-loop
-loop-again-32 c = (goes (found (c .before .before .before .before .before .before .before .before .before .before .before .before .before .before .before)) (store-acts (found (c .before .before .before .before .before .before .before .before .before .before .before .before .before .before .before)) (inr (c .before .before .before .before .before .before .before .before .before .before .before .before .before .match3 .keys9))) (told saysReached (c .before .before .before .before .before .before .before .before .before .before .before .reach3 .ensures .0) (c .before .before .before .before .before .before .before .before .before .reached3 .given .1 ∙ ap reached.At (c .before .before .before .before .before .before .spot13 .given .1))) (held-there (kept-whole (found (c .before .before .before .before .before .before .before .before .before .before .before .before .before .before .before)) (widthOf (c .before .before .before .before .before .before .before .before .before .before .before .before .before .before .before .before .fetched .given .0 .0)) (4 * c .before .before .before .before .before .before .spot13 .given .0 .0) (getD (c .before .before .before .before .before .before .before .before .before .before .before .before .before .before .before .before .before .before .before .before .before .before .before .before .before .loop .cells) (c .before .before .before .before .before .before .before .before .before .before .before .before .before .before .before .before .before .before .before .before .before .before .before .before .before .loop .regs .p - 2) 0) ((spot-within (c .before .before .before .before .before .before .before .before .before .before .before .before .before .before .before .before .before .before .before .before .before .before .before .before .before .before .before .args .reach) (widthOf (c .before .before .before .before .before .before .before .before .before .before .before .before .before .before .before .before .fetched .given .0 .0)) (c .before .before .before .before .before .before .before .before .before .before .before .reach3 .ensures .1) (c .before .before .before .before .before .before .before .before .before .reached3 .given .1 ∙ ap reached.At (c .before .before .before .before .before .before .spot13 .given .1))) .0) (c .before .before .set-local2 .ensures (c .before .before .before .before .before .before .before .before .before .before .before .before .before .before .before .before .before .before .before .before .before .before .before .before .before .loop .copies) (c .before .before .before .before .before .before .before .before .before .before .before .before .before .before .before .before .before .before .before .before .before .before .before .before .before .loop .regs .e) (omega (arith, (c .before .before .before .before .before .before .before .before .before .before .before .before .before .before .before .before .before .before .before .before .before .before .before .before .before .loop .inv .0) .e-within)) (c .before .before .before .before .before .before .before .before .before .before .before .before .before .before .before .before .before .before .before .before .before .before .before .before .before .loop .inv .1 .1 .0)))) refl (c .before .price20 .ensures .0) (c .counted21 .ensures .0), (c .before .before .before .before .before .before .before .before .before .before .before .before .before .before .before .before .before .before .before .before .before .before .before .before .before .loop .inv .1 .0, ((kept-whole (found (c .before .before .before .before .before .before .before .before .before .before .before .before .before .before .before)) (widthOf (c .before .before .before .before .before .before .before .before .before .before .before .before .before .before .before .before .fetched .given .0 .0)) (4 * c .before .before .before .before .before .before .spot13 .given .0 .0) (getD (c .before .before .before .before .before .before .before .before .before .before .before .before .before .before .before .before .before .before .before .before .before .before .before .before .before .loop .cells) (c .before .before .before .before .before .before .before .before .before .before .before .before .before .before .before .before .before .before .before .before .before .before .before .before .before .loop .regs .p - 2) 0) ((spot-within (c .before .before .before .before .before .before .before .before .before .before .before .before .before .before .before .before .before .before .before .before .before .before .before .before .before .before .before .args .reach) (widthOf (c .before .before .before .before .before .before .before .before .before .before .before .before .before .before .before .before .fetched .given .0 .0)) (c .before .before .before .before .before .before .before .before .before .before .before .reach3 .ensures .1) (c .before .before .before .before .before .before .before .before .before .reached3 .given .1 ∙ ap reached.At (c .before .before .before .before .before .before .spot13 .given .1))) .0) (c .before .before .set-local2 .ensures (c .before .before .before .before .before .before .before .before .before .before .before .before .before .before .before .before .before .before .before .before .before .before .before .before .before .loop .copies) (c .before .before .before .before .before .before .before .before .before .before .before .before .before .before .before .before .before .before .before .before .before .before .before .before .before .loop .regs .e) (omega (arith, (c .before .before .before .before .before .before .before .before .before .before .before .before .before .before .before .before .before .before .before .before .before .before .before .before .before .loop .inv .0) .e-within)) (c .before .before .before .before .before .before .before .before .before .before .before .before .before .before .before .before .before .before .before .before .before .before .before .before .before .loop .inv .1 .1 .0))) .laid, ap (λ (n : Note). n .lost % 2 ^ 32) ((kept-whole (found (c .before .before .before .before .before .before .before .before .before .before .before .before .before .before .before)) (widthOf (c .before .before .before .before .before .before .before .before .before .before .before .before .before .before .before .before .fetched .given .0 .0)) (4 * c .before .before .before .before .before .before .spot13 .given .0 .0) (getD (c .before .before .before .before .before .before .before .before .before .before .before .before .before .before .before .before .before .before .before .before .before .before .before .before .before .loop .cells) (c .before .before .before .before .before .before .before .before .before .before .before .before .before .before .before .before .before .before .before .before .before .before .before .before .before .loop .regs .p - 2) 0) ((spot-within (c .before .before .before .before .before .before .before .before .before .before .before .before .before .before .before .before .before .before .before .before .before .before .before .before .before .before .before .args .reach) (widthOf (c .before .before .before .before .before .before .before .before .before .before .before .before .before .before .before .before .fetched .given .0 .0)) (c .before .before .before .before .before .before .before .before .before .before .before .reach3 .ensures .1) (c .before .before .before .before .before .before .before .before .before .reached3 .given .1 ∙ ap reached.At (c .before .before .before .before .before .before .spot13 .given .1))) .0) (c .before .before .set-local2 .ensures (c .before .before .before .before .before .before .before .before .before .before .before .before .before .before .before .before .before .before .before .before .before .before .before .before .before .loop .copies) (c .before .before .before .before .before .before .before .before .before .before .before .before .before .before .before .before .before .before .before .before .before .before .before .before .before .loop .regs .e) (omega (arith, (c .before .before .before .before .before .before .before .before .before .before .before .before .before .before .before .before .before .before .before .before .before .before .before .before .before .loop .inv .0) .e-within)) (c .before .before .before .before .before .before .before .before .before .before .before .before .before .before .before .before .before .before .before .before .before .before .before .before .before .loop .inv .1 .1 .0))) .note-is) ∙ (c .before .before .before .before .before .before .before .before .before .before .before .before .before .before .before .before .before .before .before .before .before .before .before .before .before .loop .inv .1 .1 .1))))
+loop-again-32 c = (goes (found (c .before .before .before .before .before .before .before .before .before .before .before .before .before .before .before)) (store-acts (found (c .before .before .before .before .before .before .before .before .before .before .before .before .before .before .before)) (inr (c .before .before .before .before .before .before .before .before .before .before .before .before .before .match3 .keys9))) (told saysReached (c .before .before .before .before .before .before .before .before .before .before .before .reach3 .ensures .0) (c .before .before .before .before .before .before .before .before .before .reached3 .given .1 ∙ ap reached.At (c .before .before .before .before .before .before .spot13 .given .1))) (held-there (kept-whole (found (c .before .before .before .before .before .before .before .before .before .before .before .before .before .before .before)) (widthOf (c .before .before .before .before .before .before .before .before .before .before .before .before .before .before .before .before .fetched .given .0 .0)) (4 * c .before .before .before .before .before .before .spot13 .given .0 .0) (getD (c .before .before .before .before .before .before .before .before .before .before .before .before .before .before .before .before .before .before .before .before .before .before .before .before .before .loop .cells) (c .before .before .before .before .before .before .before .before .before .before .before .before .before .before .before .before .before .before .before .before .before .before .before .before .before .loop .regs .p - 2) 0) ((spot-within (c .before .before .before .before .before .before .before .before .before .before .before .before .before .before .before .before .before .before .before .before .before .before .before .before .before .before .before .args .reach) (widthOf (c .before .before .before .before .before .before .before .before .before .before .before .before .before .before .before .before .fetched .given .0 .0)) (c .before .before .before .before .before .before .before .before .before .before .before .reach3 .ensures .1) (c .before .before .before .before .before .before .before .before .before .reached3 .given .1 ∙ ap reached.At (c .before .before .before .before .before .before .spot13 .given .1))) .0) (c .before .before .set-local2 .ensures (c .before .before .before .before .before .before .before .before .before .before .before .before .before .before .before .before .before .before .before .before .before .before .before .before .before .loop .copies) (c .before .before .before .before .before .before .before .before .before .before .before .before .before .before .before .before .before .before .before .before .before .before .before .before .before .loop .regs .e) (omega (arith, (c .before .before .before .before .before .before .before .before .before .before .before .before .before .before .before .before .before .before .before .before .before .before .before .before .before .loop .inv .0) .e-within)) (c .before .before .before .before .before .before .before .before .before .before .before .before .before .before .before .before .before .before .before .before .before .before .before .before .before .loop .inv .1 .1 .0)))) refl (record { lines-same = ap (λ (n : Note). n .aside .lines) ((kept-whole (found (c .before .before .before .before .before .before .before .before .before .before .before .before .before .before .before)) (widthOf (c .before .before .before .before .before .before .before .before .before .before .before .before .before .before .before .before .fetched .given .0 .0)) (4 * c .before .before .before .before .before .before .spot13 .given .0 .0) (getD (c .before .before .before .before .before .before .before .before .before .before .before .before .before .before .before .before .before .before .before .before .before .before .before .before .before .loop .cells) (c .before .before .before .before .before .before .before .before .before .before .before .before .before .before .before .before .before .before .before .before .before .before .before .before .before .loop .regs .p - 2) 0) ((spot-within (c .before .before .before .before .before .before .before .before .before .before .before .before .before .before .before .before .before .before .before .before .before .before .before .before .before .before .before .args .reach) (widthOf (c .before .before .before .before .before .before .before .before .before .before .before .before .before .before .before .before .fetched .given .0 .0)) (c .before .before .before .before .before .before .before .before .before .before .before .reach3 .ensures .1) (c .before .before .before .before .before .before .before .before .before .reached3 .given .1 ∙ ap reached.At (c .before .before .before .before .before .before .spot13 .given .1))) .0) (c .before .before .set-local2 .ensures (c .before .before .before .before .before .before .before .before .before .before .before .before .before .before .before .before .before .before .before .before .before .before .before .before .before .loop .copies) (c .before .before .before .before .before .before .before .before .before .before .before .before .before .before .before .before .before .before .before .before .before .before .before .before .before .loop .regs .e) (omega (arith, (c .before .before .before .before .before .before .before .before .before .before .before .before .before .before .before .before .before .before .before .before .before .before .before .before .before .loop .inv .0) .e-within)) (c .before .before .before .before .before .before .before .before .before .before .before .before .before .before .before .before .before .before .before .before .before .before .before .before .before .loop .inv .1 .1 .0))) .note-is); r-rises = omega arith; s-rises = omega arith }) (c .before .price20 .ensures .0) (c .counted21 .ensures .0), (c .before .before .before .before .before .before .before .before .before .before .before .before .before .before .before .before .before .before .before .before .before .before .before .before .before .loop .inv .1 .0, ((kept-whole (found (c .before .before .before .before .before .before .before .before .before .before .before .before .before .before .before)) (widthOf (c .before .before .before .before .before .before .before .before .before .before .before .before .before .before .before .before .fetched .given .0 .0)) (4 * c .before .before .before .before .before .before .spot13 .given .0 .0) (getD (c .before .before .before .before .before .before .before .before .before .before .before .before .before .before .before .before .before .before .before .before .before .before .before .before .before .loop .cells) (c .before .before .before .before .before .before .before .before .before .before .before .before .before .before .before .before .before .before .before .before .before .before .before .before .before .loop .regs .p - 2) 0) ((spot-within (c .before .before .before .before .before .before .before .before .before .before .before .before .before .before .before .before .before .before .before .before .before .before .before .before .before .before .before .args .reach) (widthOf (c .before .before .before .before .before .before .before .before .before .before .before .before .before .before .before .before .fetched .given .0 .0)) (c .before .before .before .before .before .before .before .before .before .before .before .reach3 .ensures .1) (c .before .before .before .before .before .before .before .before .before .reached3 .given .1 ∙ ap reached.At (c .before .before .before .before .before .before .spot13 .given .1))) .0) (c .before .before .set-local2 .ensures (c .before .before .before .before .before .before .before .before .before .before .before .before .before .before .before .before .before .before .before .before .before .before .before .before .before .loop .copies) (c .before .before .before .before .before .before .before .before .before .before .before .before .before .before .before .before .before .before .before .before .before .before .before .before .before .loop .regs .e) (omega (arith, (c .before .before .before .before .before .before .before .before .before .before .before .before .before .before .before .before .before .before .before .before .before .before .before .before .before .loop .inv .0) .e-within)) (c .before .before .before .before .before .before .before .before .before .before .before .before .before .before .before .before .before .before .before .before .before .before .before .before .before .loop .inv .1 .1 .0))) .laid, (ap (λ (n : Note). n .lost % 2 ^ 32) ((kept-whole (found (c .before .before .before .before .before .before .before .before .before .before .before .before .before .before .before)) (widthOf (c .before .before .before .before .before .before .before .before .before .before .before .before .before .before .before .before .fetched .given .0 .0)) (4 * c .before .before .before .before .before .before .spot13 .given .0 .0) (getD (c .before .before .before .before .before .before .before .before .before .before .before .before .before .before .before .before .before .before .before .before .before .before .before .before .before .loop .cells) (c .before .before .before .before .before .before .before .before .before .before .before .before .before .before .before .before .before .before .before .before .before .before .before .before .before .loop .regs .p - 2) 0) ((spot-within (c .before .before .before .before .before .before .before .before .before .before .before .before .before .before .before .before .before .before .before .before .before .before .before .before .before .before .before .args .reach) (widthOf (c .before .before .before .before .before .before .before .before .before .before .before .before .before .before .before .before .fetched .given .0 .0)) (c .before .before .before .before .before .before .before .before .before .before .before .reach3 .ensures .1) (c .before .before .before .before .before .before .before .before .before .reached3 .given .1 ∙ ap reached.At (c .before .before .before .before .before .before .spot13 .given .1))) .0) (c .before .before .set-local2 .ensures (c .before .before .before .before .before .before .before .before .before .before .before .before .before .before .before .before .before .before .before .before .before .before .before .before .before .loop .copies) (c .before .before .before .before .before .before .before .before .before .before .before .before .before .before .before .before .before .before .before .before .before .before .before .before .before .loop .regs .e) (omega (arith, (c .before .before .before .before .before .before .before .before .before .before .before .before .before .before .before .before .before .before .before .before .before .before .before .before .before .loop .inv .0) .e-within)) (c .before .before .before .before .before .before .before .before .before .before .before .before .before .before .before .before .before .before .before .before .before .before .before .before .before .loop .inv .1 .1 .0))) .note-is) ∙ (c .before .before .before .before .before .before .before .before .before .before .before .before .before .before .before .before .before .before .before .before .before .before .before .before .before .loop .inv .1 .1 .1 .0), ((ap (λ (n : Note). n .heeds) ((kept-whole (found (c .before .before .before .before .before .before .before .before .before .before .before .before .before .before .before)) (widthOf (c .before .before .before .before .before .before .before .before .before .before .before .before .before .before .before .before .fetched .given .0 .0)) (4 * c .before .before .before .before .before .before .spot13 .given .0 .0) (getD (c .before .before .before .before .before .before .before .before .before .before .before .before .before .before .before .before .before .before .before .before .before .before .before .before .before .loop .cells) (c .before .before .before .before .before .before .before .before .before .before .before .before .before .before .before .before .before .before .before .before .before .before .before .before .before .loop .regs .p - 2) 0) ((spot-within (c .before .before .before .before .before .before .before .before .before .before .before .before .before .before .before .before .before .before .before .before .before .before .before .before .before .before .before .args .reach) (widthOf (c .before .before .before .before .before .before .before .before .before .before .before .before .before .before .before .before .fetched .given .0 .0)) (c .before .before .before .before .before .before .before .before .before .before .before .reach3 .ensures .1) (c .before .before .before .before .before .before .before .before .before .reached3 .given .1 ∙ ap reached.At (c .before .before .before .before .before .before .spot13 .given .1))) .0) (c .before .before .set-local2 .ensures (c .before .before .before .before .before .before .before .before .before .before .before .before .before .before .before .before .before .before .before .before .before .before .before .before .before .loop .copies) (c .before .before .before .before .before .before .before .before .before .before .before .before .before .before .before .before .before .before .before .before .before .before .before .before .before .loop .regs .e) (omega (arith, (c .before .before .before .before .before .before .before .before .before .before .before .before .before .before .before .before .before .before .before .before .before .before .before .before .before .loop .inv .0) .e-within)) (c .before .before .before .before .before .before .before .before .before .before .before .before .before .before .before .before .before .before .before .before .before .before .before .before .before .loop .inv .1 .1 .0))) .note-is) ∙ (c .before .before .before .before .before .before .before .before .before .before .before .before .before .before .before .before .before .before .before .before .before .before .before .before .before .loop .inv .1 .1 .1 .1 .0)), (ap (λ (n : Note). lowestDue (n .aside .lines)) ((kept-whole (found (c .before .before .before .before .before .before .before .before .before .before .before .before .before .before .before)) (widthOf (c .before .before .before .before .before .before .before .before .before .before .before .before .before .before .before .before .fetched .given .0 .0)) (4 * c .before .before .before .before .before .before .spot13 .given .0 .0) (getD (c .before .before .before .before .before .before .before .before .before .before .before .before .before .before .before .before .before .before .before .before .before .before .before .before .before .loop .cells) (c .before .before .before .before .before .before .before .before .before .before .before .before .before .before .before .before .before .before .before .before .before .before .before .before .before .loop .regs .p - 2) 0) ((spot-within (c .before .before .before .before .before .before .before .before .before .before .before .before .before .before .before .before .before .before .before .before .before .before .before .before .before .before .before .args .reach) (widthOf (c .before .before .before .before .before .before .before .before .before .before .before .before .before .before .before .before .fetched .given .0 .0)) (c .before .before .before .before .before .before .before .before .before .before .before .reach3 .ensures .1) (c .before .before .before .before .before .before .before .before .before .reached3 .given .1 ∙ ap reached.At (c .before .before .before .before .before .before .spot13 .given .1))) .0) (c .before .before .set-local2 .ensures (c .before .before .before .before .before .before .before .before .before .before .before .before .before .before .before .before .before .before .before .before .before .before .before .before .before .loop .copies) (c .before .before .before .before .before .before .before .before .before .before .before .before .before .before .before .before .before .before .before .before .before .before .before .before .before .loop .regs .e) (omega (arith, (c .before .before .before .before .before .before .before .before .before .before .before .before .before .before .before .before .before .before .before .before .before .before .before .before .before .loop .inv .0) .e-within)) (c .before .before .before .before .before .before .before .before .before .before .before .before .before .before .before .before .before .before .before .before .before .before .before .before .before .loop .inv .1 .1 .0))) .note-is) ∙ (c .before .before .before .before .before .before .before .before .before .before .before .before .before .before .before .before .before .before .before .before .before .before .before .before .before .loop .inv .1 .1 .1 .1 .1)))))))
 
 enum-known-spot-14 : tie.Need-enum-known-spot-14 Inv-loop μ-loop
 enum-known-spot-14 c = search needs
@@ -929,7 +950,7 @@ loop-less-33 : tie.Need-loop-less-33 Inv-loop μ-loop
 loop-less-33 c = omega (arith, c .counted22 .ensures .1)
 
 loop-again-33 : tie.Need-loop-again-33 Inv-loop μ-loop
-loop-again-33 c = (goes (found (c .before .before .before .before .before .before .before .before .before .before .before .before .before .before .before)) (store-acts (found (c .before .before .before .before .before .before .before .before .before .before .before .before .before .before .before)) (inr (c .before .before .before .before .before .before .before .before .before .before .before .before .before .match3 .keys9))) (told saysReached (c .before .before .before .before .before .before .before .before .before .before .before .reach3 .ensures .0) (c .before .before .before .before .before .before .before .before .before .reached3 .given .1 ∙ ap reached.At (c .before .before .before .before .before .before .spot14 .given .1))) (held-there (kept-whole (found (c .before .before .before .before .before .before .before .before .before .before .before .before .before .before .before)) (widthOf (c .before .before .before .before .before .before .before .before .before .before .before .before .before .before .before .before .fetched .given .0 .0)) (4 * (localsCount + c .before .before .before .before .before .before .spot14 .given .0 .0)) (getD (c .before .before .before .before .before .before .before .before .before .before .before .before .before .before .before .before .before .before .before .before .before .before .before .before .before .loop .cells) (c .before .before .before .before .before .before .before .before .before .before .before .before .before .before .before .before .before .before .before .before .before .before .before .before .before .loop .regs .p - 2) 0) ((spot-within (c .before .before .before .before .before .before .before .before .before .before .before .before .before .before .before .before .before .before .before .before .before .before .before .before .before .before .before .args .reach) (widthOf (c .before .before .before .before .before .before .before .before .before .before .before .before .before .before .before .before .fetched .given .0 .0)) (c .before .before .before .before .before .before .before .before .before .before .before .reach3 .ensures .1) (c .before .before .before .before .before .before .before .before .before .reached3 .given .1 ∙ ap reached.At (c .before .before .before .before .before .before .spot14 .given .1))) .0) (c .before .before .set-cell2 .ensures (c .before .before .before .before .before .before .before .before .before .before .before .before .before .before .before .before .before .before .before .before .before .before .before .before .before .loop .copies) (c .before .before .before .before .before .before .before .before .before .before .before .before .before .before .before .before .before .before .before .before .before .before .before .before .before .loop .regs .s) (omega (arith, (c .before .before .before .before .before .before .before .before .before .before .before .before .before .before .before .before .before .before .before .before .before .before .before .before .before .loop .inv .0) .s-within)) (c .before .before .before .before .before .before .before .before .before .before .before .before .before .before .before .before .before .before .before .before .before .before .before .before .before .loop .inv .1 .1 .0)))) refl (c .before .price21 .ensures .0) (c .counted22 .ensures .0), (c .before .before .before .before .before .before .before .before .before .before .before .before .before .before .before .before .before .before .before .before .before .before .before .before .before .loop .inv .1 .0, ((kept-whole (found (c .before .before .before .before .before .before .before .before .before .before .before .before .before .before .before)) (widthOf (c .before .before .before .before .before .before .before .before .before .before .before .before .before .before .before .before .fetched .given .0 .0)) (4 * (localsCount + c .before .before .before .before .before .before .spot14 .given .0 .0)) (getD (c .before .before .before .before .before .before .before .before .before .before .before .before .before .before .before .before .before .before .before .before .before .before .before .before .before .loop .cells) (c .before .before .before .before .before .before .before .before .before .before .before .before .before .before .before .before .before .before .before .before .before .before .before .before .before .loop .regs .p - 2) 0) ((spot-within (c .before .before .before .before .before .before .before .before .before .before .before .before .before .before .before .before .before .before .before .before .before .before .before .before .before .before .before .args .reach) (widthOf (c .before .before .before .before .before .before .before .before .before .before .before .before .before .before .before .before .fetched .given .0 .0)) (c .before .before .before .before .before .before .before .before .before .before .before .reach3 .ensures .1) (c .before .before .before .before .before .before .before .before .before .reached3 .given .1 ∙ ap reached.At (c .before .before .before .before .before .before .spot14 .given .1))) .0) (c .before .before .set-cell2 .ensures (c .before .before .before .before .before .before .before .before .before .before .before .before .before .before .before .before .before .before .before .before .before .before .before .before .before .loop .copies) (c .before .before .before .before .before .before .before .before .before .before .before .before .before .before .before .before .before .before .before .before .before .before .before .before .before .loop .regs .s) (omega (arith, (c .before .before .before .before .before .before .before .before .before .before .before .before .before .before .before .before .before .before .before .before .before .before .before .before .before .loop .inv .0) .s-within)) (c .before .before .before .before .before .before .before .before .before .before .before .before .before .before .before .before .before .before .before .before .before .before .before .before .before .loop .inv .1 .1 .0))) .laid, ap (λ (n : Note). n .lost % 2 ^ 32) ((kept-whole (found (c .before .before .before .before .before .before .before .before .before .before .before .before .before .before .before)) (widthOf (c .before .before .before .before .before .before .before .before .before .before .before .before .before .before .before .before .fetched .given .0 .0)) (4 * (localsCount + c .before .before .before .before .before .before .spot14 .given .0 .0)) (getD (c .before .before .before .before .before .before .before .before .before .before .before .before .before .before .before .before .before .before .before .before .before .before .before .before .before .loop .cells) (c .before .before .before .before .before .before .before .before .before .before .before .before .before .before .before .before .before .before .before .before .before .before .before .before .before .loop .regs .p - 2) 0) ((spot-within (c .before .before .before .before .before .before .before .before .before .before .before .before .before .before .before .before .before .before .before .before .before .before .before .before .before .before .before .args .reach) (widthOf (c .before .before .before .before .before .before .before .before .before .before .before .before .before .before .before .before .fetched .given .0 .0)) (c .before .before .before .before .before .before .before .before .before .before .before .reach3 .ensures .1) (c .before .before .before .before .before .before .before .before .before .reached3 .given .1 ∙ ap reached.At (c .before .before .before .before .before .before .spot14 .given .1))) .0) (c .before .before .set-cell2 .ensures (c .before .before .before .before .before .before .before .before .before .before .before .before .before .before .before .before .before .before .before .before .before .before .before .before .before .loop .copies) (c .before .before .before .before .before .before .before .before .before .before .before .before .before .before .before .before .before .before .before .before .before .before .before .before .before .loop .regs .s) (omega (arith, (c .before .before .before .before .before .before .before .before .before .before .before .before .before .before .before .before .before .before .before .before .before .before .before .before .before .loop .inv .0) .s-within)) (c .before .before .before .before .before .before .before .before .before .before .before .before .before .before .before .before .before .before .before .before .before .before .before .before .before .loop .inv .1 .1 .0))) .note-is) ∙ (c .before .before .before .before .before .before .before .before .before .before .before .before .before .before .before .before .before .before .before .before .before .before .before .before .before .loop .inv .1 .1 .1))))
+loop-again-33 c = (goes (found (c .before .before .before .before .before .before .before .before .before .before .before .before .before .before .before)) (store-acts (found (c .before .before .before .before .before .before .before .before .before .before .before .before .before .before .before)) (inr (c .before .before .before .before .before .before .before .before .before .before .before .before .before .match3 .keys9))) (told saysReached (c .before .before .before .before .before .before .before .before .before .before .before .reach3 .ensures .0) (c .before .before .before .before .before .before .before .before .before .reached3 .given .1 ∙ ap reached.At (c .before .before .before .before .before .before .spot14 .given .1))) (held-there (kept-whole (found (c .before .before .before .before .before .before .before .before .before .before .before .before .before .before .before)) (widthOf (c .before .before .before .before .before .before .before .before .before .before .before .before .before .before .before .before .fetched .given .0 .0)) (4 * (localsCount + c .before .before .before .before .before .before .spot14 .given .0 .0)) (getD (c .before .before .before .before .before .before .before .before .before .before .before .before .before .before .before .before .before .before .before .before .before .before .before .before .before .loop .cells) (c .before .before .before .before .before .before .before .before .before .before .before .before .before .before .before .before .before .before .before .before .before .before .before .before .before .loop .regs .p - 2) 0) ((spot-within (c .before .before .before .before .before .before .before .before .before .before .before .before .before .before .before .before .before .before .before .before .before .before .before .before .before .before .before .args .reach) (widthOf (c .before .before .before .before .before .before .before .before .before .before .before .before .before .before .before .before .fetched .given .0 .0)) (c .before .before .before .before .before .before .before .before .before .before .before .reach3 .ensures .1) (c .before .before .before .before .before .before .before .before .before .reached3 .given .1 ∙ ap reached.At (c .before .before .before .before .before .before .spot14 .given .1))) .0) (c .before .before .set-cell2 .ensures (c .before .before .before .before .before .before .before .before .before .before .before .before .before .before .before .before .before .before .before .before .before .before .before .before .before .loop .copies) (c .before .before .before .before .before .before .before .before .before .before .before .before .before .before .before .before .before .before .before .before .before .before .before .before .before .loop .regs .s) (omega (arith, (c .before .before .before .before .before .before .before .before .before .before .before .before .before .before .before .before .before .before .before .before .before .before .before .before .before .loop .inv .0) .s-within)) (c .before .before .before .before .before .before .before .before .before .before .before .before .before .before .before .before .before .before .before .before .before .before .before .before .before .loop .inv .1 .1 .0)))) refl (record { lines-same = ap (λ (n : Note). n .aside .lines) ((kept-whole (found (c .before .before .before .before .before .before .before .before .before .before .before .before .before .before .before)) (widthOf (c .before .before .before .before .before .before .before .before .before .before .before .before .before .before .before .before .fetched .given .0 .0)) (4 * (localsCount + c .before .before .before .before .before .before .spot14 .given .0 .0)) (getD (c .before .before .before .before .before .before .before .before .before .before .before .before .before .before .before .before .before .before .before .before .before .before .before .before .before .loop .cells) (c .before .before .before .before .before .before .before .before .before .before .before .before .before .before .before .before .before .before .before .before .before .before .before .before .before .loop .regs .p - 2) 0) ((spot-within (c .before .before .before .before .before .before .before .before .before .before .before .before .before .before .before .before .before .before .before .before .before .before .before .before .before .before .before .args .reach) (widthOf (c .before .before .before .before .before .before .before .before .before .before .before .before .before .before .before .before .fetched .given .0 .0)) (c .before .before .before .before .before .before .before .before .before .before .before .reach3 .ensures .1) (c .before .before .before .before .before .before .before .before .before .reached3 .given .1 ∙ ap reached.At (c .before .before .before .before .before .before .spot14 .given .1))) .0) (c .before .before .set-cell2 .ensures (c .before .before .before .before .before .before .before .before .before .before .before .before .before .before .before .before .before .before .before .before .before .before .before .before .before .loop .copies) (c .before .before .before .before .before .before .before .before .before .before .before .before .before .before .before .before .before .before .before .before .before .before .before .before .before .loop .regs .s) (omega (arith, (c .before .before .before .before .before .before .before .before .before .before .before .before .before .before .before .before .before .before .before .before .before .before .before .before .before .loop .inv .0) .s-within)) (c .before .before .before .before .before .before .before .before .before .before .before .before .before .before .before .before .before .before .before .before .before .before .before .before .before .loop .inv .1 .1 .0))) .note-is); r-rises = omega arith; s-rises = omega arith }) (c .before .price21 .ensures .0) (c .counted22 .ensures .0), (c .before .before .before .before .before .before .before .before .before .before .before .before .before .before .before .before .before .before .before .before .before .before .before .before .before .loop .inv .1 .0, ((kept-whole (found (c .before .before .before .before .before .before .before .before .before .before .before .before .before .before .before)) (widthOf (c .before .before .before .before .before .before .before .before .before .before .before .before .before .before .before .before .fetched .given .0 .0)) (4 * (localsCount + c .before .before .before .before .before .before .spot14 .given .0 .0)) (getD (c .before .before .before .before .before .before .before .before .before .before .before .before .before .before .before .before .before .before .before .before .before .before .before .before .before .loop .cells) (c .before .before .before .before .before .before .before .before .before .before .before .before .before .before .before .before .before .before .before .before .before .before .before .before .before .loop .regs .p - 2) 0) ((spot-within (c .before .before .before .before .before .before .before .before .before .before .before .before .before .before .before .before .before .before .before .before .before .before .before .before .before .before .before .args .reach) (widthOf (c .before .before .before .before .before .before .before .before .before .before .before .before .before .before .before .before .fetched .given .0 .0)) (c .before .before .before .before .before .before .before .before .before .before .before .reach3 .ensures .1) (c .before .before .before .before .before .before .before .before .before .reached3 .given .1 ∙ ap reached.At (c .before .before .before .before .before .before .spot14 .given .1))) .0) (c .before .before .set-cell2 .ensures (c .before .before .before .before .before .before .before .before .before .before .before .before .before .before .before .before .before .before .before .before .before .before .before .before .before .loop .copies) (c .before .before .before .before .before .before .before .before .before .before .before .before .before .before .before .before .before .before .before .before .before .before .before .before .before .loop .regs .s) (omega (arith, (c .before .before .before .before .before .before .before .before .before .before .before .before .before .before .before .before .before .before .before .before .before .before .before .before .before .loop .inv .0) .s-within)) (c .before .before .before .before .before .before .before .before .before .before .before .before .before .before .before .before .before .before .before .before .before .before .before .before .before .loop .inv .1 .1 .0))) .laid, (ap (λ (n : Note). n .lost % 2 ^ 32) ((kept-whole (found (c .before .before .before .before .before .before .before .before .before .before .before .before .before .before .before)) (widthOf (c .before .before .before .before .before .before .before .before .before .before .before .before .before .before .before .before .fetched .given .0 .0)) (4 * (localsCount + c .before .before .before .before .before .before .spot14 .given .0 .0)) (getD (c .before .before .before .before .before .before .before .before .before .before .before .before .before .before .before .before .before .before .before .before .before .before .before .before .before .loop .cells) (c .before .before .before .before .before .before .before .before .before .before .before .before .before .before .before .before .before .before .before .before .before .before .before .before .before .loop .regs .p - 2) 0) ((spot-within (c .before .before .before .before .before .before .before .before .before .before .before .before .before .before .before .before .before .before .before .before .before .before .before .before .before .before .before .args .reach) (widthOf (c .before .before .before .before .before .before .before .before .before .before .before .before .before .before .before .before .fetched .given .0 .0)) (c .before .before .before .before .before .before .before .before .before .before .before .reach3 .ensures .1) (c .before .before .before .before .before .before .before .before .before .reached3 .given .1 ∙ ap reached.At (c .before .before .before .before .before .before .spot14 .given .1))) .0) (c .before .before .set-cell2 .ensures (c .before .before .before .before .before .before .before .before .before .before .before .before .before .before .before .before .before .before .before .before .before .before .before .before .before .loop .copies) (c .before .before .before .before .before .before .before .before .before .before .before .before .before .before .before .before .before .before .before .before .before .before .before .before .before .loop .regs .s) (omega (arith, (c .before .before .before .before .before .before .before .before .before .before .before .before .before .before .before .before .before .before .before .before .before .before .before .before .before .loop .inv .0) .s-within)) (c .before .before .before .before .before .before .before .before .before .before .before .before .before .before .before .before .before .before .before .before .before .before .before .before .before .loop .inv .1 .1 .0))) .note-is) ∙ (c .before .before .before .before .before .before .before .before .before .before .before .before .before .before .before .before .before .before .before .before .before .before .before .before .before .loop .inv .1 .1 .1 .0), ((ap (λ (n : Note). n .heeds) ((kept-whole (found (c .before .before .before .before .before .before .before .before .before .before .before .before .before .before .before)) (widthOf (c .before .before .before .before .before .before .before .before .before .before .before .before .before .before .before .before .fetched .given .0 .0)) (4 * (localsCount + c .before .before .before .before .before .before .spot14 .given .0 .0)) (getD (c .before .before .before .before .before .before .before .before .before .before .before .before .before .before .before .before .before .before .before .before .before .before .before .before .before .loop .cells) (c .before .before .before .before .before .before .before .before .before .before .before .before .before .before .before .before .before .before .before .before .before .before .before .before .before .loop .regs .p - 2) 0) ((spot-within (c .before .before .before .before .before .before .before .before .before .before .before .before .before .before .before .before .before .before .before .before .before .before .before .before .before .before .before .args .reach) (widthOf (c .before .before .before .before .before .before .before .before .before .before .before .before .before .before .before .before .fetched .given .0 .0)) (c .before .before .before .before .before .before .before .before .before .before .before .reach3 .ensures .1) (c .before .before .before .before .before .before .before .before .before .reached3 .given .1 ∙ ap reached.At (c .before .before .before .before .before .before .spot14 .given .1))) .0) (c .before .before .set-cell2 .ensures (c .before .before .before .before .before .before .before .before .before .before .before .before .before .before .before .before .before .before .before .before .before .before .before .before .before .loop .copies) (c .before .before .before .before .before .before .before .before .before .before .before .before .before .before .before .before .before .before .before .before .before .before .before .before .before .loop .regs .s) (omega (arith, (c .before .before .before .before .before .before .before .before .before .before .before .before .before .before .before .before .before .before .before .before .before .before .before .before .before .loop .inv .0) .s-within)) (c .before .before .before .before .before .before .before .before .before .before .before .before .before .before .before .before .before .before .before .before .before .before .before .before .before .loop .inv .1 .1 .0))) .note-is) ∙ (c .before .before .before .before .before .before .before .before .before .before .before .before .before .before .before .before .before .before .before .before .before .before .before .before .before .loop .inv .1 .1 .1 .1 .0)), (ap (λ (n : Note). lowestDue (n .aside .lines)) ((kept-whole (found (c .before .before .before .before .before .before .before .before .before .before .before .before .before .before .before)) (widthOf (c .before .before .before .before .before .before .before .before .before .before .before .before .before .before .before .before .fetched .given .0 .0)) (4 * (localsCount + c .before .before .before .before .before .before .spot14 .given .0 .0)) (getD (c .before .before .before .before .before .before .before .before .before .before .before .before .before .before .before .before .before .before .before .before .before .before .before .before .before .loop .cells) (c .before .before .before .before .before .before .before .before .before .before .before .before .before .before .before .before .before .before .before .before .before .before .before .before .before .loop .regs .p - 2) 0) ((spot-within (c .before .before .before .before .before .before .before .before .before .before .before .before .before .before .before .before .before .before .before .before .before .before .before .before .before .before .before .args .reach) (widthOf (c .before .before .before .before .before .before .before .before .before .before .before .before .before .before .before .before .fetched .given .0 .0)) (c .before .before .before .before .before .before .before .before .before .before .before .reach3 .ensures .1) (c .before .before .before .before .before .before .before .before .before .reached3 .given .1 ∙ ap reached.At (c .before .before .before .before .before .before .spot14 .given .1))) .0) (c .before .before .set-cell2 .ensures (c .before .before .before .before .before .before .before .before .before .before .before .before .before .before .before .before .before .before .before .before .before .before .before .before .before .loop .copies) (c .before .before .before .before .before .before .before .before .before .before .before .before .before .before .before .before .before .before .before .before .before .before .before .before .before .loop .regs .s) (omega (arith, (c .before .before .before .before .before .before .before .before .before .before .before .before .before .before .before .before .before .before .before .before .before .before .before .before .before .loop .inv .0) .s-within)) (c .before .before .before .before .before .before .before .before .before .before .before .before .before .before .before .before .before .before .before .before .before .before .before .before .before .loop .inv .1 .1 .0))) .note-is) ∙ (c .before .before .before .before .before .before .before .before .before .before .before .before .before .before .before .before .before .before .before .before .before .before .before .before .before .loop .inv .1 .1 .1 .1 .1)))))))
 
 enum-known-spot-15 : tie.Need-enum-known-spot-15 Inv-loop μ-loop
 enum-known-spot-15 c = search needs
@@ -959,7 +980,7 @@ loop-less-34 : tie.Need-loop-less-34 Inv-loop μ-loop
 loop-less-34 c = omega (arith, c .counted23 .ensures .1)
 
 loop-again-34 : tie.Need-loop-again-34 Inv-loop μ-loop
-loop-again-34 c = (goes (found (c .before .before .before .before .before .before .before .before .before .before .before .before .before .before .before)) (store-acts (found (c .before .before .before .before .before .before .before .before .before .before .before .before .before .before .before)) (inr (c .before .before .before .before .before .before .before .before .before .before .before .before .before .match3 .keys9))) (told saysReached (c .before .before .before .before .before .before .before .before .before .before .before .reach3 .ensures .0) (c .before .before .before .before .before .before .before .before .before .reached3 .given .1 ∙ ap reached.At (c .before .before .before .before .before .before .spot15 .given .1))) (held-there (c .before .before .write-in-view2 .ensures (c .before .before .before .before .before .before .before .before .before .before .before .before .before .before .before .before .before .before .before .before .before .before .before .before .before .loop .copies) (c .before .before .before .before .before .before .before .before .before .before .before .before .before .before .before .before .before .before .before .before .before .before .before .before .before .loop .inv .1 .1 .0))) refl (c .before .price22 .ensures .0) (c .counted23 .ensures .0), (c .before .before .before .before .before .before .before .before .before .before .before .before .before .before .before .before .before .before .before .before .before .before .before .before .before .loop .inv .1 .0, ((c .before .before .write-in-view2 .ensures (c .before .before .before .before .before .before .before .before .before .before .before .before .before .before .before .before .before .before .before .before .before .before .before .before .before .loop .copies) (c .before .before .before .before .before .before .before .before .before .before .before .before .before .before .before .before .before .before .before .before .before .before .before .before .before .loop .inv .1 .1 .0)) .laid, ap (λ (n : Note). n .lost % 2 ^ 32) ((c .before .before .write-in-view2 .ensures (c .before .before .before .before .before .before .before .before .before .before .before .before .before .before .before .before .before .before .before .before .before .before .before .before .before .loop .copies) (c .before .before .before .before .before .before .before .before .before .before .before .before .before .before .before .before .before .before .before .before .before .before .before .before .before .loop .inv .1 .1 .0)) .note-is) ∙ (c .before .before .before .before .before .before .before .before .before .before .before .before .before .before .before .before .before .before .before .before .before .before .before .before .before .loop .inv .1 .1 .1))))
+loop-again-34 c = (goes (found (c .before .before .before .before .before .before .before .before .before .before .before .before .before .before .before)) (store-acts (found (c .before .before .before .before .before .before .before .before .before .before .before .before .before .before .before)) (inr (c .before .before .before .before .before .before .before .before .before .before .before .before .before .match3 .keys9))) (told saysReached (c .before .before .before .before .before .before .before .before .before .before .before .reach3 .ensures .0) (c .before .before .before .before .before .before .before .before .before .reached3 .given .1 ∙ ap reached.At (c .before .before .before .before .before .before .spot15 .given .1))) (held-there (c .before .before .write-in-view2 .ensures (c .before .before .before .before .before .before .before .before .before .before .before .before .before .before .before .before .before .before .before .before .before .before .before .before .before .loop .copies) (c .before .before .before .before .before .before .before .before .before .before .before .before .before .before .before .before .before .before .before .before .before .before .before .before .before .loop .inv .1 .1 .0))) refl (record { lines-same = ap (λ (n : Note). n .aside .lines) ((c .before .before .write-in-view2 .ensures (c .before .before .before .before .before .before .before .before .before .before .before .before .before .before .before .before .before .before .before .before .before .before .before .before .before .loop .copies) (c .before .before .before .before .before .before .before .before .before .before .before .before .before .before .before .before .before .before .before .before .before .before .before .before .before .loop .inv .1 .1 .0)) .note-is); r-rises = omega arith; s-rises = omega arith }) (c .before .price22 .ensures .0) (c .counted23 .ensures .0), (c .before .before .before .before .before .before .before .before .before .before .before .before .before .before .before .before .before .before .before .before .before .before .before .before .before .loop .inv .1 .0, ((c .before .before .write-in-view2 .ensures (c .before .before .before .before .before .before .before .before .before .before .before .before .before .before .before .before .before .before .before .before .before .before .before .before .before .loop .copies) (c .before .before .before .before .before .before .before .before .before .before .before .before .before .before .before .before .before .before .before .before .before .before .before .before .before .loop .inv .1 .1 .0)) .laid, (ap (λ (n : Note). n .lost % 2 ^ 32) ((c .before .before .write-in-view2 .ensures (c .before .before .before .before .before .before .before .before .before .before .before .before .before .before .before .before .before .before .before .before .before .before .before .before .before .loop .copies) (c .before .before .before .before .before .before .before .before .before .before .before .before .before .before .before .before .before .before .before .before .before .before .before .before .before .loop .inv .1 .1 .0)) .note-is) ∙ (c .before .before .before .before .before .before .before .before .before .before .before .before .before .before .before .before .before .before .before .before .before .before .before .before .before .loop .inv .1 .1 .1 .0), ((ap (λ (n : Note). n .heeds) ((c .before .before .write-in-view2 .ensures (c .before .before .before .before .before .before .before .before .before .before .before .before .before .before .before .before .before .before .before .before .before .before .before .before .before .loop .copies) (c .before .before .before .before .before .before .before .before .before .before .before .before .before .before .before .before .before .before .before .before .before .before .before .before .before .loop .inv .1 .1 .0)) .note-is) ∙ (c .before .before .before .before .before .before .before .before .before .before .before .before .before .before .before .before .before .before .before .before .before .before .before .before .before .loop .inv .1 .1 .1 .1 .0)), (ap (λ (n : Note). lowestDue (n .aside .lines)) ((c .before .before .write-in-view2 .ensures (c .before .before .before .before .before .before .before .before .before .before .before .before .before .before .before .before .before .before .before .before .before .before .before .before .before .loop .copies) (c .before .before .before .before .before .before .before .before .before .before .before .before .before .before .before .before .before .before .before .before .before .before .before .before .before .loop .inv .1 .1 .0)) .note-is) ∙ (c .before .before .before .before .before .before .before .before .before .before .before .before .before .before .before .before .before .before .before .before .before .before .before .before .before .loop .inv .1 .1 .1 .1 .1)))))))
 
 can-call-requires : tie.Need-can-call-requires Inv-loop μ-loop
 can-call-requires c κs = search needs
@@ -1004,7 +1025,7 @@ loop-less-36 : tie.Need-loop-less-36 Inv-loop μ-loop
 loop-less-36 c = omega (arith, c .counted24 .ensures .1)
 
 loop-again-36 : tie.Need-loop-again-36 Inv-loop μ-loop
-loop-again-36 c = (goes (found (c .before .before .before .before .before .before .before .before .before .before)) (call-acts (found (c .before .before .before .before .before .before .before .before .before .before)) (c .before .before .before .before .before .before .before .before .match3 .keys10)) (told saysChecked (c .before .before .before .before .before .before .before .can-call .ensures) (c .before .before .before .before .before .enum-told16 .given .1)) (held-there (c .before .before .called2 .ensures (c .before .before .before .before .before .before .before .before .before .before .before .before .before .before .before .before .before .before .before .before .loop .inv .1 .1 .0))) refl (c .before .price23 .ensures .0) (c .counted24 .ensures .0), (c .before .before .before .before .before .before .before .before .before .before .before .before .before .before .before .before .before .before .before .before .loop .inv .1 .0, ((c .before .before .called2 .ensures (c .before .before .before .before .before .before .before .before .before .before .before .before .before .before .before .before .before .before .before .before .loop .inv .1 .1 .0)) .laid, ap (λ (n : Note). n .lost % 2 ^ 32) ((c .before .before .called2 .ensures (c .before .before .before .before .before .before .before .before .before .before .before .before .before .before .before .before .before .before .before .before .loop .inv .1 .1 .0)) .note-is) ∙ (c .before .before .before .before .before .before .before .before .before .before .before .before .before .before .before .before .before .before .before .before .loop .inv .1 .1 .1))))
+loop-again-36 c = (goes (found (c .before .before .before .before .before .before .before .before .before .before)) (call-acts (found (c .before .before .before .before .before .before .before .before .before .before)) (c .before .before .before .before .before .before .before .before .match3 .keys10)) (told saysChecked (c .before .before .before .before .before .before .before .can-call .ensures) (c .before .before .before .before .before .enum-told16 .given .1)) (held-there (c .before .before .called2 .ensures (c .before .before .before .before .before .before .before .before .before .before .before .before .before .before .before .before .before .before .before .before .loop .inv .1 .1 .0))) refl (record { lines-same = ap (λ (n : Note). n .aside .lines) ((c .before .before .called2 .ensures (c .before .before .before .before .before .before .before .before .before .before .before .before .before .before .before .before .before .before .before .before .loop .inv .1 .1 .0)) .note-is); r-rises = omega arith; s-rises = omega arith }) (c .before .price23 .ensures .0) (c .counted24 .ensures .0), (c .before .before .before .before .before .before .before .before .before .before .before .before .before .before .before .before .before .before .before .before .loop .inv .1 .0, ((c .before .before .called2 .ensures (c .before .before .before .before .before .before .before .before .before .before .before .before .before .before .before .before .before .before .before .before .loop .inv .1 .1 .0)) .laid, (ap (λ (n : Note). n .lost % 2 ^ 32) ((c .before .before .called2 .ensures (c .before .before .before .before .before .before .before .before .before .before .before .before .before .before .before .before .before .before .before .before .loop .inv .1 .1 .0)) .note-is) ∙ (c .before .before .before .before .before .before .before .before .before .before .before .before .before .before .before .before .before .before .before .before .loop .inv .1 .1 .1 .0), ((ap (λ (n : Note). n .heeds) ((c .before .before .called2 .ensures (c .before .before .before .before .before .before .before .before .before .before .before .before .before .before .before .before .before .before .before .before .loop .inv .1 .1 .0)) .note-is) ∙ (c .before .before .before .before .before .before .before .before .before .before .before .before .before .before .before .before .before .before .before .before .loop .inv .1 .1 .1 .1 .0)), (ap (λ (n : Note). lowestDue (n .aside .lines)) ((c .before .before .called2 .ensures (c .before .before .before .before .before .before .before .before .before .before .before .before .before .before .before .before .before .before .before .before .loop .inv .1 .1 .0)) .note-is) ∙ (c .before .before .before .before .before .before .before .before .before .before .before .before .before .before .before .before .before .before .before .before .loop .inv .1 .1 .1 .1 .1)))))))
 
 can-call-requires-2 : tie.Need-can-call-requires-2 Inv-loop μ-loop
 can-call-requires-2 c κs = search needs
@@ -1061,10 +1082,13 @@ loop-less-38 : tie.Need-loop-less-38 Inv-loop μ-loop
 loop-less-38 c = omega (arith, c .counted25 .ensures .1)
 
 loop-again-38 : tie.Need-loop-again-38 Inv-loop μ-loop
-loop-again-38 c = (goes (found (c .before .before .before .before .before .before .before .before .before .before .before)) (call-top-acts (found (c .before .before .before .before .before .before .before .before .before .before .before)) (c .before .before .before .before .before .before .before .before .before .match3 .keys11)) (told saysChecked (c .before .before .before .before .before .before .before .before .can-call2 .ensures) (c .before .before .before .before .before .before .enum-told18 .given .1)) (held-there (c .before .before .called3 .ensures (c .before .before .before .before .before .before .before .before .before .before .before .before .before .before .before .before .before .before .before .before .before .loop .inv .1 .1 .0))) refl (c .before .price24 .ensures .0) (c .counted25 .ensures .0), (c .before .before .before .before .before .before .before .before .before .before .before .before .before .before .before .before .before .before .before .before .before .loop .inv .1 .0, ((c .before .before .called3 .ensures (c .before .before .before .before .before .before .before .before .before .before .before .before .before .before .before .before .before .before .before .before .before .loop .inv .1 .1 .0)) .laid, ap (λ (n : Note). n .lost % 2 ^ 32) ((c .before .before .called3 .ensures (c .before .before .before .before .before .before .before .before .before .before .before .before .before .before .before .before .before .before .before .before .before .loop .inv .1 .1 .0)) .note-is) ∙ (c .before .before .before .before .before .before .before .before .before .before .before .before .before .before .before .before .before .before .before .before .before .loop .inv .1 .1 .1))))
+loop-again-38 c = (goes (found (c .before .before .before .before .before .before .before .before .before .before .before)) (call-top-acts (found (c .before .before .before .before .before .before .before .before .before .before .before)) (c .before .before .before .before .before .before .before .before .before .match3 .keys11)) (told saysChecked (c .before .before .before .before .before .before .before .before .can-call2 .ensures) (c .before .before .before .before .before .before .enum-told18 .given .1)) (held-there (c .before .before .called3 .ensures (c .before .before .before .before .before .before .before .before .before .before .before .before .before .before .before .before .before .before .before .before .before .loop .inv .1 .1 .0))) refl (record { lines-same = ap (λ (n : Note). n .aside .lines) ((c .before .before .called3 .ensures (c .before .before .before .before .before .before .before .before .before .before .before .before .before .before .before .before .before .before .before .before .before .loop .inv .1 .1 .0)) .note-is); r-rises = omega arith; s-rises = omega arith }) (c .before .price24 .ensures .0) (c .counted25 .ensures .0), (c .before .before .before .before .before .before .before .before .before .before .before .before .before .before .before .before .before .before .before .before .before .loop .inv .1 .0, ((c .before .before .called3 .ensures (c .before .before .before .before .before .before .before .before .before .before .before .before .before .before .before .before .before .before .before .before .before .loop .inv .1 .1 .0)) .laid, (ap (λ (n : Note). n .lost % 2 ^ 32) ((c .before .before .called3 .ensures (c .before .before .before .before .before .before .before .before .before .before .before .before .before .before .before .before .before .before .before .before .before .loop .inv .1 .1 .0)) .note-is) ∙ (c .before .before .before .before .before .before .before .before .before .before .before .before .before .before .before .before .before .before .before .before .before .loop .inv .1 .1 .1 .0), ((ap (λ (n : Note). n .heeds) ((c .before .before .called3 .ensures (c .before .before .before .before .before .before .before .before .before .before .before .before .before .before .before .before .before .before .before .before .before .loop .inv .1 .1 .0)) .note-is) ∙ (c .before .before .before .before .before .before .before .before .before .before .before .before .before .before .before .before .before .before .before .before .before .loop .inv .1 .1 .1 .1 .0)), (ap (λ (n : Note). lowestDue (n .aside .lines)) ((c .before .before .called3 .ensures (c .before .before .before .before .before .before .before .before .before .before .before .before .before .before .before .before .before .before .before .before .before .loop .inv .1 .1 .0)) .note-is) ∙ (c .before .before .before .before .before .before .before .before .before .before .before .before .before .before .before .before .before .before .before .before .before .loop .inv .1 .1 .1 .1 .1)))))))
 
-can-exit-requires : tie.Need-can-exit-requires Inv-loop μ-loop
-can-exit-requires c κs = search needs
+block-requires : tie.Need-block-requires Inv-loop μ-loop
+block-requires c κs = search needs
+
+can-return-requires : tie.Need-can-return-requires Inv-loop μ-loop
+can-return-requires c κs = search needs
 
 enum-told-20 : tie.Need-enum-told-20 Inv-loop μ-loop
 enum-told-20 c = search needs
@@ -1072,95 +1096,158 @@ enum-told-20 c = search needs
 enum-told-21 : tie.Need-enum-told-21 Inv-loop μ-loop
 enum-told-21 c = search needs
 
-by-exit-requires : tie.Need-by-exit-requires Inv-loop μ-loop
-by-exit-requires c κs = search needs
+by-check-requires-7 : tie.Need-by-check-requires-7 Inv-loop μ-loop
+by-check-requires-7 c κs = search needs
 
 loop-less-39 : tie.Need-loop-less-39 Inv-loop μ-loop
-loop-less-39 c = halted-less (c .before .before .before .before .before .before .before .before .before .before .before .before .before .before .before .before .loop .regs) (c .by-exit .ensures) (ap saysExit (c .before .enum-told21 .given .1)) ((found (c .before .before .before .before .before .before)) .less)
+loop-less-39 c = halted-less (c .before .before .before .before .before .before .before .before .before .before .before .before .before .before .before .before .before .before .loop .regs) (c .by-check7 .ensures) (ap saysChecked (c .before .enum-told21 .given .1)) ((found (c .before .before .before .before .before .before .before .before)) .less)
 
 loop-again-39 : tie.Need-loop-again-39 Inv-loop μ-loop
-loop-again-39 c = (ends (found (c .before .before .before .before .before .before)) (exit-acts (found (c .before .before .before .before .before .before)) (c .before .before .before .before .match3 .keys12) refl refl refl) (told saysExit (c .before .before .before .can-exit .ensures) (c .before .enum-told21 .given .1)) (c .before .before .before .can-exit .ensures) (c .by-exit .ensures), (c .before .before .before .before .before .before .before .before .before .before .before .before .before .before .before .before .loop .inv .1))
+loop-again-39 c = (ends (found (c .before .before .before .before .before .before .before .before)) (rti-acts (found (c .before .before .before .before .before .before .before .before)) (c .before .before .before .before .before .before .match3 .keys12) refl refl refl) (told saysChecked (c .before .before .before .can-return .ensures ∙ ap (λ b. returnable b (c .before .before .before .before .before .before .before .before .before .before .before .before .before .before .before .before .before .before .loop .regs .s)) (c .before .before .before .before .block .ensures)) (c .before .enum-told21 .given .1)) (c .before .before .before .can-return .ensures ∙ ap (λ b. returnable b (c .before .before .before .before .before .before .before .before .before .before .before .before .before .before .before .before .before .before .loop .regs .s)) (c .before .before .before .before .block .ensures)) (c .by-check7 .ensures), (c .before .before .before .before .before .before .before .before .before .before .before .before .before .before .before .before .before .before .loop .inv .1))
 
 sub-regs-17 : tie.Need-sub-regs-17 Inv-loop μ-loop
-sub-regs-17 c = omega (arith, exit-room (told saysExit (c .before .before .can-exit .ensures) (c .enum-told20 .given .1)))
+sub-regs-17 c = omega (arith, return-room (noteIn (c .before .before .before .before .before .before .before .before .before .before .before .before .before .before .before .before .before .loop .rows) .aside .lines .block) (told saysChecked (c .before .before .can-return .ensures ∙ ap (λ b. returnable b (c .before .before .before .before .before .before .before .before .before .before .before .before .before .before .before .before .before .loop .regs .s)) (c .before .before .before .block .ensures)) (c .enum-told20 .given .1)))
 
 sub-e-after-drop : tie.Need-sub-e-after-drop Inv-loop μ-loop
-sub-e-after-drop c = omega (arith, exit-room (told saysExit (c .before .before .can-exit .ensures) (c .enum-told20 .given .1)))
+sub-e-after-drop c = omega (arith, return-room (noteIn (c .before .before .before .before .before .before .before .before .before .before .before .before .before .before .before .before .before .loop .rows) .aside .lines .block) (told saysChecked (c .before .before .can-return .ensures ∙ ap (λ b. returnable b (c .before .before .before .before .before .before .before .before .before .before .before .before .before .before .before .before .before .loop .regs .s)) (c .before .before .before .block .ensures)) (c .enum-told20 .given .1)))
 
 copy-of-s-requires-3 : tie.Need-copy-of-s-requires-3 Inv-loop μ-loop
-copy-of-s-requires-3 c κs = omega (arith, (c .before .before .before .before .before .before .before .before .before .before .before .before .before .before .before .before .loop .inv .0) .e-within)
+copy-of-s-requires-3 c κs = omega (arith, (c .before .before .before .before .before .before .before .before .before .before .before .before .before .before .before .before .before .before .loop .inv .0) .e-within)
 
 e-after-drop-requires : tie.Need-e-after-drop-requires Inv-loop μ-loop
 e-after-drop-requires c κs = search needs
 
 copy-of-r-requires-3 : tie.Need-copy-of-r-requires-3 Inv-loop μ-loop
-copy-of-r-requires-3 c κs = omega (arith, (c .before .before .before .before .before .before .before .before .before .before .before .before .before .before .before .before .before .before .before .loop .inv .0) .s-within)
+copy-of-r-requires-3 c κs = omega (arith, (c .before .before .before .before .before .before .before .before .before .before .before .before .before .before .before .before .before .before .before .before .before .loop .inv .0) .s-within)
 
 return-address-requires : tie.Need-return-address-requires Inv-loop μ-loop
-return-address-requires c κs = omega (arith, (c .before .before .before .before .before .before .before .before .before .before .before .before .before .before .before .before .before .before .before .before .before .loop .inv .0) .s-within)
+return-address-requires c κs = omega (arith, (c .before .before .before .before .before .before .before .before .before .before .before .before .before .before .before .before .before .before .before .before .before .before .before .loop .inv .0) .s-within)
+
+release-requires : tie.Need-release-requires Inv-loop μ-loop
+release-requires c κs = search needs
 
 price-requires-25 : tie.Need-price-requires-25 Inv-loop μ-loop
-price-requires-25 c κs = c .before .before .before .before .before .before .before .before .before .before .before .before .before .before .before .before .before .before .before .before .before .before .loop .inv .1 .0
+price-requires-25 c κs = c .before .before .before .before .before .before .before .before .before .before .before .before .before .before .before .before .before .before .before .before .before .before .before .before .before .before .loop .inv .1 .0
 
 counted-requires-26 : tie.Need-counted-requires-26 Inv-loop μ-loop
-counted-requires-26 c κs = ((found (c .before .before .before .before .before .before .before .before .before .before .before .before .before)) .less, ((omega (arith, (c .before .before .before .before .before .before .before .before .before .before .before .before .before .before .before .before .before .before .before .before .before .before .before .loop .inv .0) .priced, (c .before .before .before .before .before .before .before .before .before .before .before .before .before .before .before .before .before .before .before .before .before .before .before .loop .inv .0) .limit, (c .before .before .before .before .before .before .before .before .before .before .before .before .before .before .before .before .before .before .before .before .before .before .before .loop .inv .0) .left-within, (found (c .before .before .before .before .before .before .before .before .before .before .before .before .before)) .less)), c .price25 .ensures .1))
+counted-requires-26 c κs = ((found (c .before .before .before .before .before .before .before .before .before .before .before .before .before .before .before .before .before)) .less, ((omega (arith, (c .before .before .before .before .before .before .before .before .before .before .before .before .before .before .before .before .before .before .before .before .before .before .before .before .before .before .before .loop .inv .0) .priced, (c .before .before .before .before .before .before .before .before .before .before .before .before .before .before .before .before .before .before .before .before .before .before .before .before .before .before .before .loop .inv .0) .limit, (c .before .before .before .before .before .before .before .before .before .before .before .before .before .before .before .before .before .before .before .before .before .before .before .before .before .before .before .loop .inv .0) .left-within, (found (c .before .before .before .before .before .before .before .before .before .before .before .before .before .before .before .before .before)) .less)), c .price25 .ensures .1))
+
+held-requires-4 : tie.Need-held-requires-4 Inv-loop μ-loop
+held-requires-4 c κs = search needs
+
+parted-requires-4 : tie.Need-parted-requires-4 Inv-loop μ-loop
+parted-requires-4 c κs = search needs
 
 loop-less-40 : tie.Need-loop-less-40 Inv-loop μ-loop
-loop-less-40 c = omega (arith, c .counted26 .ensures .1)
+loop-less-40 c = omega (arith, c .before .before .before .counted26 .ensures .1, c .parted4 .ensures .1)
 
 loop-again-40 : tie.Need-loop-again-40 Inv-loop μ-loop
-loop-again-40 c = (goes (found (c .before .before .before .before .before .before .before .before .before .before .before .before .before .before)) (exit-acts (found (c .before .before .before .before .before .before .before .before .before .before .before .before .before .before)) (c .before .before .before .before .before .before .before .before .before .before .before .before .match3 .keys12) (c .before .before .before .before .before .before .e-after-drop .ensures ∙ ap (eAfterDropOf (c .before .before .before .before .before .before .before .before .before .before .before .before .before .before .before .before .before .before .before .before .before .before .before .before .loop .regs .s - 1) (c .before .before .before .before .before .before .before .before .before .before .before .before .before .before .before .before .before .before .before .before .before .before .before .before .loop .regs .e)) (c .before .before .before .before .before .before .before .copy-of-s3 .ensures (c .before .before .before .before .before .before .before .before .before .before .before .before .before .before .before .before .before .before .before .before .before .before .before .before .loop .rows))) (c .before .before .before .before .copy-of-r3 .ensures (c .before .before .before .before .before .before .before .before .before .before .before .before .before .before .before .before .before .before .before .before .before .before .before .before .loop .rows)) (c .before .before .return-address .ensures (c .before .before .before .before .before .before .before .before .before .before .before .before .before .before .before .before .before .before .before .before .before .before .before .before .loop .copies))) (told saysExit (c .before .before .before .before .before .before .before .before .before .before .before .can-exit .ensures) (c .before .before .before .before .before .before .before .before .before .enum-told20 .given .1)) refl refl (c .before .price25 .ensures .0) (c .counted26 .ensures .0), (c .before .before .before .before .before .before .before .before .before .before .before .before .before .before .before .before .before .before .before .before .before .before .before .before .loop .inv .1))
+loop-again-40 c = (goes-in (found (c .before .before .before .before .before .before .before .before .before .before .before .before .before .before .before .before .before .before .before .before .before)) (rti-acts (found (c .before .before .before .before .before .before .before .before .before .before .before .before .before .before .before .before .before .before .before .before .before)) (c .before .before .before .before .before .before .before .before .before .before .before .before .before .before .before .before .before .before .before .match3 .keys12) (c .before .before .before .before .before .before .before .before .before .before .before .e-after-drop .ensures ∙ ap (eAfterDropOf (c .before .before .before .before .before .before .before .before .before .before .before .before .before .before .before .before .before .before .before .before .before .before .before .before .before .before .before .before .before .before .before .loop .regs .s - 1) (c .before .before .before .before .before .before .before .before .before .before .before .before .before .before .before .before .before .before .before .before .before .before .before .before .before .before .before .before .before .before .before .loop .regs .e)) (c .before .before .before .before .before .before .before .before .before .before .before .before .copy-of-s3 .ensures (c .before .before .before .before .before .before .before .before .before .before .before .before .before .before .before .before .before .before .before .before .before .before .before .before .before .before .before .before .before .before .before .loop .rows))) (c .before .before .before .before .before .before .before .before .before .copy-of-r3 .ensures (c .before .before .before .before .before .before .before .before .before .before .before .before .before .before .before .before .before .before .before .before .before .before .before .before .before .before .before .before .before .before .before .loop .rows)) (c .before .before .before .before .before .before .before .return-address .ensures (c .before .before .before .before .before .before .before .before .before .before .before .before .before .before .before .before .before .before .before .before .before .before .before .before .before .before .before .before .before .before .before .loop .copies))) (told saysChecked (c .before .before .before .before .before .before .before .before .before .before .before .before .before .before .before .before .can-return .ensures ∙ ap (λ b. returnable b (c .before .before .before .before .before .before .before .before .before .before .before .before .before .before .before .before .before .before .before .before .before .before .before .before .before .before .before .before .before .before .before .loop .regs .s)) (c .before .before .before .before .before .before .before .before .before .before .before .before .before .before .before .before .before .block .ensures)) (c .before .before .before .before .before .before .before .before .before .before .before .before .before .before .enum-told20 .given .1)) (held-there (c .before .before .before .before .before .release .ensures (c .before .before .before .before .before .before .before .before .before .before .before .before .before .before .before .before .before .before .before .before .before .before .before .before .before .before .before .before .before .before .before .loop .copies) (c .before .before .before .before .before .before .before .before .before .before .before .before .before .before .before .before .before .before .before .before .before .before .before .before .before .before .before .before .before .before .before .loop .inv .1 .1 .0))) refl (c .before .before .before .before .price25 .ensures .0) (c .before .before .before .counted26 .ensures .0) (ap (λ (n : Note). n .heeds) ((c .before .before .before .before .before .release .ensures (c .before .before .before .before .before .before .before .before .before .before .before .before .before .before .before .before .before .before .before .before .before .before .before .before .before .before .before .before .before .before .before .loop .copies) (c .before .before .before .before .before .before .before .before .before .before .before .before .before .before .before .before .before .before .before .before .before .before .before .before .before .before .before .before .before .before .before .loop .inv .1 .1 .0)) .note-is) ∙ (c .before .before .before .before .before .before .before .before .before .before .before .before .before .before .before .before .before .before .before .before .before .before .before .before .before .before .before .before .before .before .before .loop .inv .1 .1 .1 .1 .0)) (c .before .held4 .ensures) (c .parted4 .ensures .0) ((unheeded-now (noteIn (c .before .before .before .before .before .release .last .0) .aside .lines) (noteIn (c .before .before .before .before .before .before .before .before .before .before .before .before .before .before .before .before .before .before .before .before .before .before .before .before .before .before .before .before .before .before .before .before .before .args .rows .now) .aside .lines) (c .before .before .before .before .before .before .before .before .before .before .before .before .before .before .before .before .before .before .before .before .before .before .before .before .before .before .before .before .before .before .before .before .before .pre .unheeded)) (ap (λ (n : Note). n .heeds) ((c .before .before .before .before .before .release .ensures (c .before .before .before .before .before .before .before .before .before .before .before .before .before .before .before .before .before .before .before .before .before .before .before .before .before .before .before .before .before .before .before .loop .copies) (c .before .before .before .before .before .before .before .before .before .before .before .before .before .before .before .before .before .before .before .before .before .before .before .before .before .before .before .before .before .before .before .loop .inv .1 .1 .0)) .note-is) ∙ (c .before .before .before .before .before .before .before .before .before .before .before .before .before .before .before .before .before .before .before .before .before .before .before .before .before .before .before .before .before .before .before .loop .inv .1 .1 .1 .1 .0)) (ap (λ (n : Note). lowestDue (n .aside .lines)) ((c .before .before .before .before .before .release .ensures (c .before .before .before .before .before .before .before .before .before .before .before .before .before .before .before .before .before .before .before .before .before .before .before .before .before .before .before .before .before .before .before .loop .copies) (c .before .before .before .before .before .before .before .before .before .before .before .before .before .before .before .before .before .before .before .before .before .before .before .before .before .before .before .before .before .before .before .loop .inv .1 .1 .0)) .note-is) ∙ (release-due (noteIn (c .before .before .before .before .before .before .before .before .before .before .before .before .before .before .before .before .before .before .before .before .before .before .before .before .before .before .before .before .before .before .before .loop .rows) .aside .lines) ∙ (c .before .before .before .before .before .before .before .before .before .before .before .before .before .before .before .before .before .before .before .before .before .before .before .before .before .before .before .before .before .before .before .loop .inv .1 .1 .1 .1 .1)))), (c .before .before .before .before .before .before .before .before .before .before .before .before .before .before .before .before .before .before .before .before .before .before .before .before .before .before .before .before .before .before .before .loop .inv .1 .0, ((c .before .before .before .before .before .release .ensures (c .before .before .before .before .before .before .before .before .before .before .before .before .before .before .before .before .before .before .before .before .before .before .before .before .before .before .before .before .before .before .before .loop .copies) (c .before .before .before .before .before .before .before .before .before .before .before .before .before .before .before .before .before .before .before .before .before .before .before .before .before .before .before .before .before .before .before .loop .inv .1 .1 .0)) .laid, (ap (λ (n : Note). n .lost % 2 ^ 32) ((c .before .before .before .before .before .release .ensures (c .before .before .before .before .before .before .before .before .before .before .before .before .before .before .before .before .before .before .before .before .before .before .before .before .before .before .before .before .before .before .before .loop .copies) (c .before .before .before .before .before .before .before .before .before .before .before .before .before .before .before .before .before .before .before .before .before .before .before .before .before .before .before .before .before .before .before .loop .inv .1 .1 .0)) .note-is) ∙ (c .before .before .before .before .before .before .before .before .before .before .before .before .before .before .before .before .before .before .before .before .before .before .before .before .before .before .before .before .before .before .before .loop .inv .1 .1 .1 .0), ((ap (λ (n : Note). n .heeds) ((c .before .before .before .before .before .release .ensures (c .before .before .before .before .before .before .before .before .before .before .before .before .before .before .before .before .before .before .before .before .before .before .before .before .before .before .before .before .before .before .before .loop .copies) (c .before .before .before .before .before .before .before .before .before .before .before .before .before .before .before .before .before .before .before .before .before .before .before .before .before .before .before .before .before .before .before .loop .inv .1 .1 .0)) .note-is) ∙ (c .before .before .before .before .before .before .before .before .before .before .before .before .before .before .before .before .before .before .before .before .before .before .before .before .before .before .before .before .before .before .before .loop .inv .1 .1 .1 .1 .0)), (ap (λ (n : Note). lowestDue (n .aside .lines)) ((c .before .before .before .before .before .release .ensures (c .before .before .before .before .before .before .before .before .before .before .before .before .before .before .before .before .before .before .before .before .before .before .before .before .before .before .before .before .before .before .before .loop .copies) (c .before .before .before .before .before .before .before .before .before .before .before .before .before .before .before .before .before .before .before .before .before .before .before .before .before .before .before .before .before .before .before .loop .inv .1 .1 .0)) .note-is) ∙ (release-due (noteIn (c .before .before .before .before .before .before .before .before .before .before .before .before .before .before .before .before .before .before .before .before .before .before .before .before .before .before .before .before .before .before .before .loop .rows) .aside .lines) ∙ (c .before .before .before .before .before .before .before .before .before .before .before .before .before .before .before .before .before .before .before .before .before .before .before .before .before .before .before .before .before .before .before .loop .inv .1 .1 .1 .1 .1))))))))
 
-price-requires-26 : tie.Need-price-requires-26 Inv-loop μ-loop
-price-requires-26 c κs = c .before .before .before .before .before .before .before .before .before .before .before .before .loop .inv .1 .0
-
-counted-requires-27 : tie.Need-counted-requires-27 Inv-loop μ-loop
-counted-requires-27 c κs = ((found (c .before .before .before)) .less, ((omega (arith, (c .before .before .before .before .before .before .before .before .before .before .before .before .before .loop .inv .0) .priced, (c .before .before .before .before .before .before .before .before .before .before .before .before .before .loop .inv .0) .limit, (c .before .before .before .before .before .before .before .before .before .before .before .before .before .loop .inv .0) .left-within, (found (c .before .before .before)) .less)), c .price26 .ensures .1))
-
-paused-requires : tie.Need-paused-requires Inv-loop μ-loop
-paused-requires c κs = search needs
-
-loop-less-41 : tie.Need-loop-less-41 Inv-loop μ-loop
-loop-less-41 c = omega (arith, c .before .counted27 .ensures .1, c .paused .ensures .1)
-
-loop-again-41 : tie.Need-loop-again-41 Inv-loop μ-loop
-loop-again-41 c = (paused (found (c .before .before .before .before .before)) (pause-is (found (c .before .before .before .before .before)) (c .before .before .before .match3 .keys13)) refl (c .before .before .price26 .ensures .0) (c .before .before .before .match3 .keys13) (c .before .counted27 .ensures .0) (c .paused .ensures .0), (c .before .before .before .before .before .before .before .before .before .before .before .before .before .before .before .loop .inv .1))
-
-on-cells-requires : tie.Need-on-cells-requires Inv-loop μ-loop
-on-cells-requires c κs = ((c .before .before .before .before .before .before .before .before .before .before .before .before .before .loop .inv .0) .p-within, (omega (arith, c .before .before .if3 .left), (record { not07 = (c .before .match3 .rest .0 .0 .0 .0 .0 .0 .0 .0 .0 .0 .0 .0 .1); not08 = (c .before .match3 .rest .0 .0 .0 .0 .0 .0 .0 .0 .0 .0 .0 .1); not09 = (c .before .match3 .rest .0 .0 .0 .0 .0 .0 .0 .0 .0 .0 .1); not0B = (c .before .match3 .rest .0 .0 .0 .0 .0 .0 .0 .0 .0 .1); not0C = (c .before .match3 .rest .0 .0 .0 .0 .0 .0 .0 .0 .1); not0D = (c .before .match3 .rest .0 .0 .0 .0 .0 .0 .0 .1); not2D = (λ h. c .before .match3 .rest .0 .0 .0 .0 .0 .0 .1 (inl h)); not2E = (c .before .match3 .rest .0 .0 .0 .0 .0 .1); not2F = (λ h. c .before .match3 .rest .0 .0 .0 .0 .0 .0 .1 (inr (inl h))); not30 = (λ h. c .before .match3 .rest .0 .0 .0 .0 .1 (inl h)); not31 = (λ h. c .before .match3 .rest .0 .0 .0 .0 .0 .0 .1 (inr (inr (h)))); not32 = (λ h. c .before .match3 .rest .0 .0 .0 .0 .1 (inr (h))); not38 = (c .before .match3 .rest .0 .0 .0 .1); not39 = (c .before .match3 .rest .0 .0 .1); not3D = (c .before .match3 .rest .0 .1); not3E = (c .before .match3 .rest .1) })))
-
-enum-known-done-2 : tie.Need-enum-known-done-2 Inv-loop μ-loop
-enum-known-done-2 c = search needs
+can-exit-requires : tie.Need-can-exit-requires Inv-loop μ-loop
+can-exit-requires c κs = search needs
 
 enum-told-22 : tie.Need-enum-told-22 Inv-loop μ-loop
 enum-told-22 c = search needs
 
+enum-told-23 : tie.Need-enum-told-23 Inv-loop μ-loop
+enum-told-23 c = search needs
+
+by-exit-requires : tie.Need-by-exit-requires Inv-loop μ-loop
+by-exit-requires c κs = search needs
+
+loop-less-41 : tie.Need-loop-less-41 Inv-loop μ-loop
+loop-less-41 c = halted-less (c .before .before .before .before .before .before .before .before .before .before .before .before .before .before .before .before .loop .regs) (c .by-exit .ensures) (ap saysExit (c .before .enum-told23 .given .1)) ((found (c .before .before .before .before .before .before)) .less)
+
+loop-again-41 : tie.Need-loop-again-41 Inv-loop μ-loop
+loop-again-41 c = (ends (found (c .before .before .before .before .before .before)) (exit-acts (found (c .before .before .before .before .before .before)) (c .before .before .before .before .match3 .keys13) refl refl refl) (told saysExit (c .before .before .before .can-exit .ensures) (c .before .enum-told23 .given .1)) (c .before .before .before .can-exit .ensures) (c .by-exit .ensures), (c .before .before .before .before .before .before .before .before .before .before .before .before .before .before .before .before .loop .inv .1))
+
+sub-regs-18 : tie.Need-sub-regs-18 Inv-loop μ-loop
+sub-regs-18 c = omega (arith, exit-room (told saysExit (c .before .before .can-exit .ensures) (c .enum-told22 .given .1)))
+
+sub-e-after-drop-2 : tie.Need-sub-e-after-drop-2 Inv-loop μ-loop
+sub-e-after-drop-2 c = omega (arith, exit-room (told saysExit (c .before .before .can-exit .ensures) (c .enum-told22 .given .1)))
+
+copy-of-s-requires-4 : tie.Need-copy-of-s-requires-4 Inv-loop μ-loop
+copy-of-s-requires-4 c κs = omega (arith, (c .before .before .before .before .before .before .before .before .before .before .before .before .before .before .before .before .loop .inv .0) .e-within)
+
+e-after-drop-requires-2 : tie.Need-e-after-drop-requires-2 Inv-loop μ-loop
+e-after-drop-requires-2 c κs = search needs
+
+copy-of-r-requires-4 : tie.Need-copy-of-r-requires-4 Inv-loop μ-loop
+copy-of-r-requires-4 c κs = omega (arith, (c .before .before .before .before .before .before .before .before .before .before .before .before .before .before .before .before .before .before .before .loop .inv .0) .s-within)
+
+return-address-requires-2 : tie.Need-return-address-requires-2 Inv-loop μ-loop
+return-address-requires-2 c κs = omega (arith, (c .before .before .before .before .before .before .before .before .before .before .before .before .before .before .before .before .before .before .before .before .before .loop .inv .0) .s-within)
+
+price-requires-26 : tie.Need-price-requires-26 Inv-loop μ-loop
+price-requires-26 c κs = c .before .before .before .before .before .before .before .before .before .before .before .before .before .before .before .before .before .before .before .before .before .before .loop .inv .1 .0
+
+counted-requires-27 : tie.Need-counted-requires-27 Inv-loop μ-loop
+counted-requires-27 c κs = ((found (c .before .before .before .before .before .before .before .before .before .before .before .before .before)) .less, ((omega (arith, (c .before .before .before .before .before .before .before .before .before .before .before .before .before .before .before .before .before .before .before .before .before .before .before .loop .inv .0) .priced, (c .before .before .before .before .before .before .before .before .before .before .before .before .before .before .before .before .before .before .before .before .before .before .before .loop .inv .0) .limit, (c .before .before .before .before .before .before .before .before .before .before .before .before .before .before .before .before .before .before .before .before .before .before .before .loop .inv .0) .left-within, (found (c .before .before .before .before .before .before .before .before .before .before .before .before .before)) .less)), c .price26 .ensures .1))
+
+held-requires-5 : tie.Need-held-requires-5 Inv-loop μ-loop
+held-requires-5 c κs = search needs
+
+parted-requires-5 : tie.Need-parted-requires-5 Inv-loop μ-loop
+parted-requires-5 c κs = search needs
+
+loop-less-42 : tie.Need-loop-less-42 Inv-loop μ-loop
+loop-less-42 c = omega (arith, c .before .before .before .counted27 .ensures .1, c .parted5 .ensures .1)
+
+loop-again-42 : tie.Need-loop-again-42 Inv-loop μ-loop
+loop-again-42 c = (goes-in (found (c .before .before .before .before .before .before .before .before .before .before .before .before .before .before .before .before .before)) (exit-acts (found (c .before .before .before .before .before .before .before .before .before .before .before .before .before .before .before .before .before)) (c .before .before .before .before .before .before .before .before .before .before .before .before .before .before .before .match3 .keys13) (c .before .before .before .before .before .before .before .before .before .e-after-drop2 .ensures ∙ ap (eAfterDropOf (c .before .before .before .before .before .before .before .before .before .before .before .before .before .before .before .before .before .before .before .before .before .before .before .before .before .before .before .loop .regs .s - 1) (c .before .before .before .before .before .before .before .before .before .before .before .before .before .before .before .before .before .before .before .before .before .before .before .before .before .before .before .loop .regs .e)) (c .before .before .before .before .before .before .before .before .before .before .copy-of-s4 .ensures (c .before .before .before .before .before .before .before .before .before .before .before .before .before .before .before .before .before .before .before .before .before .before .before .before .before .before .before .loop .rows))) (c .before .before .before .before .before .before .before .copy-of-r4 .ensures (c .before .before .before .before .before .before .before .before .before .before .before .before .before .before .before .before .before .before .before .before .before .before .before .before .before .before .before .loop .rows)) (c .before .before .before .before .before .return-address2 .ensures (c .before .before .before .before .before .before .before .before .before .before .before .before .before .before .before .before .before .before .before .before .before .before .before .before .before .before .before .loop .copies))) (told saysExit (c .before .before .before .before .before .before .before .before .before .before .before .before .before .before .can-exit .ensures) (c .before .before .before .before .before .before .before .before .before .before .before .before .enum-told22 .given .1)) refl refl (c .before .before .before .before .price26 .ensures .0) (c .before .before .before .counted27 .ensures .0) (c .before .before .before .before .before .before .before .before .before .before .before .before .before .before .before .before .before .before .before .before .before .before .before .before .before .before .before .loop .inv .1 .1 .1 .1 .0) (c .before .held5 .ensures) (c .parted5 .ensures .0) ((unheeded-now (noteIn (c .before .before .before .before .before .before .before .before .before .before .before .before .before .before .before .before .before .before .before .before .before .before .before .before .before .before .before .loop .rows) .aside .lines) (noteIn (c .before .before .before .before .before .before .before .before .before .before .before .before .before .before .before .before .before .before .before .before .before .before .before .before .before .before .before .before .before .args .rows .now) .aside .lines) (c .before .before .before .before .before .before .before .before .before .before .before .before .before .before .before .before .before .before .before .before .before .before .before .before .before .before .before .before .before .pre .unheeded)) (c .before .before .before .before .before .before .before .before .before .before .before .before .before .before .before .before .before .before .before .before .before .before .before .before .before .before .before .loop .inv .1 .1 .1 .1 .0) (c .before .before .before .before .before .before .before .before .before .before .before .before .before .before .before .before .before .before .before .before .before .before .before .before .before .before .before .loop .inv .1 .1 .1 .1 .1)), (c .before .before .before .before .before .before .before .before .before .before .before .before .before .before .before .before .before .before .before .before .before .before .before .before .before .before .before .loop .inv .1))
+
+price-requires-27 : tie.Need-price-requires-27 Inv-loop μ-loop
+price-requires-27 c κs = c .before .before .before .before .before .before .before .before .before .before .before .before .loop .inv .1 .0
+
+counted-requires-28 : tie.Need-counted-requires-28 Inv-loop μ-loop
+counted-requires-28 c κs = ((found (c .before .before .before)) .less, ((omega (arith, (c .before .before .before .before .before .before .before .before .before .before .before .before .before .loop .inv .0) .priced, (c .before .before .before .before .before .before .before .before .before .before .before .before .before .loop .inv .0) .limit, (c .before .before .before .before .before .before .before .before .before .before .before .before .before .loop .inv .0) .left-within, (found (c .before .before .before)) .less)), c .price27 .ensures .1))
+
+paused-requires : tie.Need-paused-requires Inv-loop μ-loop
+paused-requires c κs = search needs
+
+loop-less-43 : tie.Need-loop-less-43 Inv-loop μ-loop
+loop-less-43 c = omega (arith, c .before .counted28 .ensures .1, c .paused .ensures .1)
+
+loop-again-43 : tie.Need-loop-again-43 Inv-loop μ-loop
+loop-again-43 c = (paused (found (c .before .before .before .before .before)) (pause-is (found (c .before .before .before .before .before)) (c .before .before .before .match3 .keys14)) refl (c .before .before .price27 .ensures .0) (record { lines-same = refl; r-rises = omega arith; s-rises = omega arith }) (c .before .before .before .match3 .keys14) (c .before .counted28 .ensures .0) (c .paused .ensures .0), (c .before .before .before .before .before .before .before .before .before .before .before .before .before .before .before .loop .inv .1))
+
+on-cells-requires : tie.Need-on-cells-requires Inv-loop μ-loop
+on-cells-requires c κs = ((c .before .before .before .before .before .before .before .before .before .before .before .before .before .loop .inv .0) .p-within, (omega (arith, c .before .before .if3 .left), (record { not07 = (c .before .match3 .rest .0 .0 .0 .0 .0 .0 .0 .0 .0 .0 .0 .0 .0 .1); not08 = (c .before .match3 .rest .0 .0 .0 .0 .0 .0 .0 .0 .0 .0 .0 .0 .1); not09 = (c .before .match3 .rest .0 .0 .0 .0 .0 .0 .0 .0 .0 .0 .0 .1); not0B = (c .before .match3 .rest .0 .0 .0 .0 .0 .0 .0 .0 .0 .0 .1); not0C = (c .before .match3 .rest .0 .0 .0 .0 .0 .0 .0 .0 .0 .1); not0D = (c .before .match3 .rest .0 .0 .0 .0 .0 .0 .0 .0 .1); not2D = (λ h. c .before .match3 .rest .0 .0 .0 .0 .0 .0 .0 .1 (inl h)); not2E = (c .before .match3 .rest .0 .0 .0 .0 .0 .0 .1); not2F = (λ h. c .before .match3 .rest .0 .0 .0 .0 .0 .0 .0 .1 (inr (inl h))); not30 = (λ h. c .before .match3 .rest .0 .0 .0 .0 .0 .1 (inl h)); not31 = (λ h. c .before .match3 .rest .0 .0 .0 .0 .0 .0 .0 .1 (inr (inr (h)))); not32 = (λ h. c .before .match3 .rest .0 .0 .0 .0 .0 .1 (inr (h))); not38 = (c .before .match3 .rest .0 .0 .0 .0 .1); not39 = (c .before .match3 .rest .0 .0 .0 .1); not3C = (c .before .match3 .rest .0 .0 .1); not3D = (c .before .match3 .rest .0 .1); not3E = (c .before .match3 .rest .1) })))
+
+enum-known-done-2 : tie.Need-enum-known-done-2 Inv-loop μ-loop
+enum-known-done-2 c = search needs
+
+enum-told-24 : tie.Need-enum-told-24 Inv-loop μ-loop
+enum-told-24 c = search needs
+
 by-done-requires-2 : tie.Need-by-done-requires-2 Inv-loop μ-loop
 by-done-requires-2 c κs = search needs
 
-loop-less-42 : tie.Need-loop-less-42 Inv-loop μ-loop
-loop-less-42 c = halted-less (c .before .before .before .before .before .before .before .before .before .before .before .before .before .before .before .before .before .loop .regs) (c .by-done2 .ensures) (ap saysDone (c .before .enum-told22 .given .1)) ((found (c .before .before .before .before .before .before .before)) .less)
+loop-less-44 : tie.Need-loop-less-44 Inv-loop μ-loop
+loop-less-44 c = halted-less (c .before .before .before .before .before .before .before .before .before .before .before .before .before .before .before .before .before .loop .regs) (c .by-done2 .ensures) (ap saysDone (c .before .enum-told24 .given .1)) ((found (c .before .before .before .before .before .before .before)) .less)
 
-loop-again-42 : tie.Need-loop-again-42 Inv-loop μ-loop
-loop-again-42 c = (cells-end (found (c .before .before .before .before .before .before .before)) (c .before .before .before .before .before .match3 .rest .0 .0 .0 .0 .0 .0 .0 .1) (c .before .before .before .before .before .match3 .rest .1) (c .before .before .before .on-cells .ensures) (ap saysDone (c .before .enum-told22 .given .1)) (c .by-done2 .ensures), (c .before .before .before .before .before .before .before .before .before .before .before .before .before .before .before .before .before .loop .inv .1))
+loop-again-44 : tie.Need-loop-again-44 Inv-loop μ-loop
+loop-again-44 c = (cells-end (found (c .before .before .before .before .before .before .before)) (c .before .before .before .before .before .match3 .rest .0 .0 .0 .0 .0 .0 .0 .0 .1) (c .before .before .before .before .before .match3 .rest .1) (c .before .before .before .on-cells .ensures) (ap saysDone (c .before .enum-told24 .given .1)) (c .by-done2 .ensures), (c .before .before .before .before .before .before .before .before .before .before .before .before .before .before .before .before .before .loop .inv .1))
 
-price-requires-27 : tie.Need-price-requires-27 Inv-loop μ-loop
-price-requires-27 c κs = c .before .before .before .before .before .before .before .before .before .before .before .before .before .before .before .before .before .loop .inv .1 .0
+price-requires-28 : tie.Need-price-requires-28 Inv-loop μ-loop
+price-requires-28 c κs = c .before .before .before .before .before .before .before .before .before .before .before .before .before .before .before .before .before .loop .inv .1 .0
 
-counted-requires-28 : tie.Need-counted-requires-28 Inv-loop μ-loop
-counted-requires-28 c κs = ((found (c .before .before .before .before .before .before .before .before)) .less, ((omega (arith, (c .before .before .before .before .before .before .before .before .before .before .before .before .before .before .before .before .before .before .loop .inv .0) .priced, (c .before .before .before .before .before .before .before .before .before .before .before .before .before .before .before .before .before .before .loop .inv .0) .limit, (c .before .before .before .before .before .before .before .before .before .before .before .before .before .before .before .before .before .before .loop .inv .0) .left-within, (found (c .before .before .before .before .before .before .before .before)) .less)), c .price27 .ensures .1))
+counted-requires-29 : tie.Need-counted-requires-29 Inv-loop μ-loop
+counted-requires-29 c κs = ((found (c .before .before .before .before .before .before .before .before)) .less, ((omega (arith, (c .before .before .before .before .before .before .before .before .before .before .before .before .before .before .before .before .before .before .loop .inv .0) .priced, (c .before .before .before .before .before .before .before .before .before .before .before .before .before .before .before .before .before .before .loop .inv .0) .limit, (c .before .before .before .before .before .before .before .before .before .before .before .before .before .before .before .before .before .before .loop .inv .0) .left-within, (found (c .before .before .before .before .before .before .before .before)) .less)), c .price28 .ensures .1))
 
-loop-less-43 : tie.Need-loop-less-43 Inv-loop μ-loop
-loop-less-43 c = omega (arith, c .counted28 .ensures .1)
+loop-less-45 : tie.Need-loop-less-45 Inv-loop μ-loop
+loop-less-45 c = omega (arith, c .counted29 .ensures .1)
 
-loop-again-43 : tie.Need-loop-again-43 Inv-loop μ-loop
-loop-again-43 c = (goes (found (c .before .before .before .before .before .before .before .before .before)) (cells-acts (found (c .before .before .before .before .before .before .before .before .before)) (c .before .before .before .before .before .before .before .match3 .rest .0 .0 .0 .0 .0 .0 .0 .1) (c .before .before .before .before .before .before .before .match3 .rest .1) (c .before .before .before .before .before .on-cells .ensures)) (ap saysDone (c .before .before .before .done2 .given .1)) refl refl (c .before .price27 .ensures .0) (c .counted28 .ensures .0), (c .before .before .before .before .before .before .before .before .before .before .before .before .before .before .before .before .before .before .before .loop .inv .1))
+loop-again-45 : tie.Need-loop-again-45 Inv-loop μ-loop
+loop-again-45 c = (goes (found (c .before .before .before .before .before .before .before .before .before)) (cells-acts (found (c .before .before .before .before .before .before .before .before .before)) (c .before .before .before .before .before .before .before .match3 .rest .0 .0 .0 .0 .0 .0 .0 .0 .1) (c .before .before .before .before .before .before .before .match3 .rest .1) (c .before .before .before .before .before .on-cells .ensures)) (ap saysDone (c .before .before .before .done2 .given .1)) refl refl (record { lines-same = refl; r-rises = omega arith; s-rises = omega arith }) (c .before .price28 .ensures .0) (c .counted29 .ensures .0), (c .before .before .before .before .before .before .before .before .before .before .before .before .before .before .before .before .before .before .before .loop .inv .1))
 
 same-length : tie.Need-same-length Inv-loop μ-loop
 same-length c = (c .before .before .loop .inv .0) .long ∙ sym ((c .before .before .loop .inv .0) .long₀)
 
 returns : tie.Need-returns Inv-loop μ-loop
-returns c = record { unspent-within = (c .before .before .loop .inv .0) .unspent-within; laid = (c .before .before .loop .inv .1 .1 .0); loses = (c .before .before .loop .inv .1 .1 .1); same = (c .before .before .loop .inv .0) .over (c .if1 .left) }
+returns c = record { leaves = record { nothing-left = omega (arith, c .if1 .left); unspent-within = (c .before .before .loop .inv .0) .unspent-within; priced = omega (arith, (c .before .before .loop .inv .0) .priced); long = (c .before .before .loop .inv .0) .long; laid = (c .before .before .loop .inv .1 .1 .0); loses = (c .before .before .loop .inv .1 .1 .1 .0) }; heeds-same = (c .before .before .loop .inv .1 .1 .1 .1 .0); due-same = (c .before .before .loop .inv .1 .1 .1 .1 .1); unmarked = λ h. unmarked-then (c .before .before .loop .regs .again) (λ is. (c .before .before .loop .inv .0) .marks is h); same = (c .before .before .loop .inv .0) .over (c .if1 .left); answered = (c .before .before .loop .inv .0) .answered; goes = (c .before .before .loop .inv .0) .more }
 
 pub rounds-spec : {M : Type 1} → statement M
 rounds-spec =
@@ -1240,6 +1327,8 @@ rounds-spec =
     e-after-pop-requires
     price-requires-4
     counted-requires-4
+    held-requires
+    parted-requires
     loop-less-10
     loop-again-10
     can-catch-requires
@@ -1267,6 +1356,8 @@ rounds-spec =
     loop-again-12
     price-requires-6
     counted-requires-6
+    held-requires-2
+    parted-requires-2
     loop-less-13
     loop-again-13
     can-throw-requires
@@ -1293,6 +1384,8 @@ rounds-spec =
     sub-regs-5
     price-requires-7
     counted-requires-8
+    held-requires-3
+    parted-requires-3
     loop-less-16
     loop-again-16
     reach-requires
@@ -1496,10 +1589,11 @@ rounds-spec =
     counted-requires-25
     loop-less-38
     loop-again-38
-    can-exit-requires
+    block-requires
+    can-return-requires
     enum-told-20
     enum-told-21
-    by-exit-requires
+    by-check-requires-7
     loop-less-39
     loop-again-39
     sub-regs-17
@@ -1508,24 +1602,45 @@ rounds-spec =
     e-after-drop-requires
     copy-of-r-requires-3
     return-address-requires
+    release-requires
     price-requires-25
     counted-requires-26
+    held-requires-4
+    parted-requires-4
     loop-less-40
     loop-again-40
-    price-requires-26
-    counted-requires-27
-    paused-requires
+    can-exit-requires
+    enum-told-22
+    enum-told-23
+    by-exit-requires
     loop-less-41
     loop-again-41
-    on-cells-requires
-    enum-known-done-2
-    enum-told-22
-    by-done-requires-2
+    sub-regs-18
+    sub-e-after-drop-2
+    copy-of-s-requires-4
+    e-after-drop-requires-2
+    copy-of-r-requires-4
+    return-address-requires-2
+    price-requires-26
+    counted-requires-27
+    held-requires-5
+    parted-requires-5
     loop-less-42
     loop-again-42
     price-requires-27
     counted-requires-28
+    paused-requires
     loop-less-43
     loop-again-43
+    on-cells-requires
+    enum-known-done-2
+    enum-told-24
+    by-done-requires-2
+    loop-less-44
+    loop-again-44
+    price-requires-28
+    counted-requires-29
+    loop-less-45
+    loop-again-45
     same-length
     returns)

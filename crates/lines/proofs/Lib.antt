@@ -1,0 +1,2 @@
+-- from what the called functions ensure to what is promised
+mod Changing
