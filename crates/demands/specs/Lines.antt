@@ -1,12 +1,24 @@
 -- Interrupt lines in a history: request P4.
 use mathlib.Core.Path.{_≡_}
-use mathlib.Core.Bool.{true, false}
+use mathlib.Core.Bool.{Bool, true, false}
 use Prim.Native.Nat.{ℕ, zero, suc, _<_, _≤_}
 use lib.Dec.{eqb}
 use Rattle.plain.specs.Choice.{pick}
 use Rattle.machine.specs.Lines.{hasBit, isDue, none, entering}
 use Rattle.machine.specs.declared.Lines.{Lines}
+use Rattle.machine.specs.declared.Machine.{Machine}
 use Rattle.demands.specs.History.{World, codeAt, Moment, step, enters, host, others, History, here, then}
+
+-- whether a routine is in progress, and whether line n waits
+abbrev pub blockOf : World → ℕ
+blockOf w = w .machine .lines .block
+
+abbrev pub waitsAt : ℕ → World → Bool
+waitsAt n w = hasBit n (w .machine .lines .waiting)
+
+-- mask and requests are carried
+abbrev pub Carried : Machine → Machine → Type 0
+Carried m m′ = (m′ .lines .mask ≡ m .lines .mask) × (m′ .lines .waiting ≡ m .lines .waiting)
 
 -- no line enters
 abbrev pub NoneEnters : {w v : World} → History w v → Type 0

@@ -29,15 +29,8 @@ use Rattle.machine.specs.declared.Machine.{Machine}
 use Rattle.machine.specs.declared.Ran.{Ran}
 use Rattle.machine.specs.declared.Reach.{Reach}
 use Rattle.demands.specs.History.{World, codeAt, asked, Moment, step, enters, host, others, History, here, then, Unbroken}
-use Rattle.demands.specs.Lines.{NoneEnters, timesEntered, NeverRaised, Returns, NoneReturns, LowestDue}
+use Rattle.demands.specs.Lines.{blockOf, waitsAt, NoneEnters, timesEntered, NeverRaised, Returns, NoneReturns, LowestDue}
 use Rattle.demands.specs.Theorems.Two.{starts, counts}
-
--- whether a routine is in progress, and whether line n waits
-abbrev blockOf : World → ℕ
-blockOf w = w .machine .lines .block
-
-abbrev waitsAt : ℕ → World → Bool
-waitsAt n w = hasBit n (w .machine .lines .waiting)
 
 -- Without a line that waits and is let in, a run is the run without the unit: every step, count, byte and answer, for every budget,
 -- for one machine and in a task's turn.

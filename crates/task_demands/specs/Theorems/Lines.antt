@@ -14,7 +14,7 @@ use Rattle.machine.specs.Laws.Releases.{mask-kept, waiting-kept}
 use Rattle.machine.specs.declared.Machine.{Machine}
 use Rattle.demands.specs.History.{World, History, here, then, step, enters, host, others, joined, Unbroken}
 use Rattle.demands.specs.Course.{EntersAsItMay}
-use Rattle.demands.specs.Lines.{NoneEnters}
+use Rattle.demands.specs.Lines.{Carried, NoneEnters}
 use Rattle.demands.specs.Theorems.Two.{turn-counts}
 use Rattle.task_demands.specs.Histories.{worldAt, worldAtEnd, Follows, at-spent, at-idle, own-turn, others-turn}
 
@@ -50,10 +50,6 @@ none-enters u other run h (own-turn some is rest now later follows) =
     (subst (λ (lined : Bool). EntersAsItMay lined (now .history)) (unlined u other) (now .lines))
     (none-enters u other rest later follows)
 none-enters u other run h (others-turn t some is rest differs same later follows) = none-enters u other rest later follows
-
--- the mask and the requests of a machine
-abbrev Carried : Machine → Machine → Type 0
-Carried m m′ = (m′ .lines .mask ≡ m .lines .mask) × (m′ .lines .waiting ≡ m .lines .waiting)
 
 history-carried : {w v : World} (h : History w v) → Unbroken h → NoneEnters h → Carried (w .machine) (v .machine)
 history-carried here u none = (refl, refl)
