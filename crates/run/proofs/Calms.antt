@@ -49,16 +49,19 @@ calm-rises (no-return-room h) more deeper = no-return-room (omega arith)
 calm-rises (no-frame-room h) more deeper = no-frame-room (omega arith)
 
 -- where no line might enter, whatever the room
-pub unheld-calm : {lined : Bool} {heeds : ℕ} {l : Lines} {r s : ℕ} → (heeds ≡ 0 → Quiet lined l) → heldIn heeds l ≡ false → Calm lined l r s
-unheld-calm {lined} {heeds} {l} {r} {s} unheeded e = go (eqb heeds 0) refl e
+pub unheld-calm : {lined lines : Bool} {heeds : ℕ} {l : Lines} {r s : ℕ} → (heeds ≡ 0 → Quiet lined l) → (lines ≡ false → heeds ≡ 0) → heldIn lines heeds l ≡ false →
+    Calm lined l r s
+unheld-calm {lined} {lines} {heeds} {l} {r} {s} unheeded unasked e = go lines refl (eqb heeds 0) refl e
   where
-    go : (b : Bool) → eqb heeds 0 ≡ b → pick b false (eqb (l .block) 0) ≡ false → Calm lined l r s
-    go true h e = quiet (unheeded (eqb-true heeds 0 h))
-    go false h e = blocked (eqb-false (l .block) 0 e)
+    go : (a : Bool) → lines ≡ a → (b : Bool) → eqb heeds 0 ≡ b → pick a (pick b false (eqb (l .block) 0)) false ≡ false → Calm lined l r s
+    go false h b k e = quiet (unheeded (unasked h))
+    go true h true k e = quiet (unheeded (eqb-true heeds 0 k))
+    go true h false k e = blocked (eqb-false (l .block) 0 e)
 
 -- and none is held where none might
-pub unheld-none : {heeds : ℕ} (l : Lines) → heeds ≡ 0 → heldIn heeds l ≡ false
-unheld-none l h = ap (λ (n : ℕ). heldIn n l) h
+pub unheld-none : (lines : Bool) {heeds : ℕ} (l : Lines) → heeds ≡ 0 → heldIn lines heeds l ≡ false
+unheld-none true l h = ap (λ (n : ℕ). heldIn true n l) h
+unheld-none false l h = refl
 
 -- a mark that cannot be set is not
 pub unmarked-then : (b : Bool) → (b ≡ true → ⊥) → b ≡ false

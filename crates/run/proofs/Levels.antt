@@ -74,11 +74,11 @@ module _ (rows : List (List ℕ)) (copies : List ℕ) where
         levelOf rows′ copies′ i ≡ levelOf rows copies i
     level-alike i er es ep = rw (er, es, ep)
 
-    frames-same : ((i : ℕ) → i < framesCount → Alike rows′ rows [] i) → ((i : ℕ) → i < framesCount → Alike copies′ copies 0 i) → framesIn rows′ copies′ ≡ framesIn rows copies
+    pub frames-same : ((i : ℕ) → i < framesCount → Alike rows′ rows [] i) → ((i : ℕ) → i < framesCount → Alike copies′ copies 0 i) → framesIn rows′ copies′ ≡ framesIn rows copies
     unfolding framesIn
     frames-same er ec = tabulated-same framesCount (frameOf rows copies) (frameOf rows′ copies′) (λ i h. frame-alike i (er i h) (ec i h))
 
-    levels-same : ((i : ℕ) → i < levelsCount → Alike rows′ rows [] (framesCount + i)) → ((i : ℕ) → i < levelsCount → Alike copies′ copies 0 (framesCount + i)) →
+    pub levels-same : ((i : ℕ) → i < levelsCount → Alike rows′ rows [] (framesCount + i)) → ((i : ℕ) → i < levelsCount → Alike copies′ copies 0 (framesCount + i)) →
         ((i : ℕ) → i < levelsCount → Alike copies′ copies 0 (framesCount + levelsCount + i)) → levelsIn rows′ copies′ ≡ levelsIn rows copies
     unfolding levelsIn
     levels-same er es ep = tabulated-same levelsCount (levelOf rows copies) (levelOf rows′ copies′) (λ i h. level-alike i (er i h) (es i h) (ep i h))
@@ -274,7 +274,7 @@ module _ (rows : List (List ℕ)) (copies : List ℕ) (laid : Laid rows copies) 
     pub note-there : getD (set rows noteRow row) noteRow [] ≡ row
     note-there = getD-set-same rows noteRow row [] (omega (arith, laid .rows-long))
 
-    behind : {note : Note} → noteIn (set rows noteRow row) ≡ note → Hold (set rows noteRow row) copies (framesIn rows copies) (levelsIn rows copies) note
+    pub behind : {note : Note} → noteIn (set rows noteRow row) ≡ note → Hold (set rows noteRow row) copies (framesIn rows copies) (levelsIn rows copies) note
     behind note-is =
         record {
           laid =

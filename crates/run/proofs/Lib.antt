@@ -24,6 +24,7 @@ mod CutOff
 mod Tabled
 mod Levels
 mod Filled
+mod Parking
 mod Parted
 -- the cells in view
 mod Seen

@@ -266,10 +266,10 @@ module _ {reach : Reach} {inTurns : Bool} {mem₀ : List ℕ} {m₀ : Machine} {
             round-here (answer ∙ now .unanswered) (unspent ∙ now .none) (again-same ∙ now .unmarked) (omega arith) calm (there not)
 
         -- where a line might enter, the loop ends and the run goes on
-        parts-on : passes inTurns mem old ≡ false → {heeds : ℕ} → heeds ≡ heeds₀ → (b : Bool) → heldIn heeds (aside′ .lines) ≡ b → (heeds ≡ 0 → Quiet (linesEnter reach) (aside′ .lines)) →
+        parts-on : passes inTurns mem old ≡ false → {lines : Bool} {heeds : ℕ} → heeds ≡ heeds₀ → (lines ≡ false → heeds₀ ≡ 0) → (b : Bool) → heldIn lines heeds (aside′ .lines) ≡ b → (heeds ≡ 0 → Quiet (linesEnter reach) (aside′ .lines)) →
             Round reach inTurns mem₀ m₀ budget heeds₀ mem′ cells′ returns′ frames′ levels′ aside′ (partedAt (countedTo moved price) b)
-        parts-on not heeds-are false held unheeded = on not (λ less. unheld-calm unheeded held)
-        parts-on not heeds-are true held unheeded =
+        parts-on not heeds-are unasked false held unheeded = on not (λ less. unheld-calm unheeded (λ off. heeds-are ∙ unasked off) held)
+        parts-on not {lines} heeds-are unasked true held unheeded =
             let h = there not in
             let within = found .round .left-within in
             let less = found .less in
@@ -289,7 +289,7 @@ module _ {reach : Reach} {inTurns : Bool} {mem₀ : List ℕ} {m₀ : Machine} {
               long = h .long;
               going = λ none. absurd (omega arith);
               over = λ spent not. marked not refl;
-              marks = λ is h. marked (unheld-none (aside′ .lines) (heeds-are ∙ h)) held;
+              marks = λ is h. marked (unheld-none lines (aside′ .lines) (heeds-are ∙ h)) held;
               answered = λ is. refl;
               more = λ is.
                   record {
@@ -377,9 +377,9 @@ module _ {reach : Reach} {inTurns : Bool} {mem₀ : List ℕ} {m₀ : Machine} {
         pub goes-in : {values : A} → said ≡ gives values →
             {mem′ cells′ returns′ : List ℕ} {frames′ : List Frame} {levels′ : List Level} {aside′ : Aside} {moved : Registers} {cost : ℕ} →
             after values ≡ done mem′ (machineIn cells′ returns′ frames′ levels′ aside′ moved) cost → countsOf moved ≡ countsOf g →
-            {price : ℕ} → price ≡ cost → {counted : Registers} → counted ≡ countedTo moved price → {heeds : ℕ} → heeds ≡ heeds₀ → {b : Bool} → b ≡ heldIn heeds (aside′ .lines) →
+            {price : ℕ} → price ≡ cost → {counted : Registers} → counted ≡ countedTo moved price → {lines : Bool} {heeds : ℕ} → heeds ≡ heeds₀ → (lines ≡ false → heeds₀ ≡ 0) → {b : Bool} → b ≡ heldIn lines heeds (aside′ .lines) →
             {g′ : Registers} → g′ ≡ partedAt counted b → (heeds ≡ 0 → Quiet (linesEnter reach) (aside′ .lines)) →
             Round reach inTurns mem₀ m₀ budget heeds₀ mem′ cells′ returns′ frames′ levels′ aside′ g′
-        goes-in e {mem′} {cells′} {returns′} {frames′} {levels′} {aside′} ea same ep ec {heeds} heeds-are {b} eb eg unheeded =
+        goes-in e {mem′} {cells′} {returns′} {frames′} {levels′} {aside′} ea same ep ec heeds-are unasked {b} eb eg unheeded =
             subst⁻¹ (Round reach inTurns mem₀ m₀ budget heeds₀ mem′ cells′ returns′ frames′ levels′ aside′) (eg ∙ ap (λ (x : Registers). partedAt x b) ec)
-            (parts-on (by-gift acts e ∙ ea) same ep (no-pause (acts .on)) heeds-are b (sym eb) unheeded)
+            (parts-on (by-gift acts e ∙ ea) same ep (no-pause (acts .on)) heeds-are unasked b (sym eb) unheeded)

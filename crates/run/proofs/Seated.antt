@@ -304,7 +304,7 @@ module _ {quantum budget lined : ℕ} {start : Between} {mem kept rests : List �
             lines-here = ap linesEnter er ∙ lines-of-task t
 
             pub seat-starts : Bounded reach → {costs : List ℕ} → costs ≡ cycleTable →
-                Starts reach mem from-here (getD rows₁ t []) (getD copies₁ t []) turn costs
+                Starts reach mem from-here (getD rows₁ t []) (getD copies₁ t []) turn costs true
             seat-starts bounded priced =
                 record {
                   accepted =
@@ -316,6 +316,7 @@ module _ {quantum budget lined : ℕ} {start : Between} {mem kept rests : List �
                   priced = priced;
                   calm = subst⁻¹ (λ (b : Bool). Calm b (from-here .lines) (from-here .links .r) (from-here .links .s)) lines-here (o .calm₁);
                   unheeded = λ h. subst⁻¹ (λ (b : Bool). Quiet b (from-here .lines)) lines-here (o .unheeded₁ h);
+                  unasked = λ off. absurd (subst T off tt);
                 }
 
             -- the loop's run is the definition's turn

@@ -5,6 +5,7 @@ use mathlib.Core.List.{List}
 use mathlib.Core.Logic.{inl, inr}
 use Prim.Native.Nat.{ℕ, _+_, _-_, _*_, _%_, _^_, _≤_, _<_}
 use native.Mathlib.Omega.{arith}
+use lib.Dec.{T}
 use lib.ListN.{length}
 use Rattle.plain.specs.Choice.{pick}
 use Rattle.links.specs.declared.Frame.{Frame}
@@ -23,7 +24,7 @@ use Rattle.machine.specs.declared.Machine.{Machine}
 use Rattle.machine.specs.declared.Reach.{Reach}
 use Rattle.run.specs.Calm.{linesEnter, mannerIn, runIn, Calm}
 use Rattle.run.specs.Entries.{LetsIn, Attends}
-use Rattle.run.specs.Levels.{framesIn, levelsIn, noteIn, pointersIn, inRows, Laid, Hold}
+use Rattle.run.specs.Levels.{framesIn, levelsIn, noteIn, pointersIn, inRows, parkedIn, Laid, Hold, Parks}
 use Rattle.run.specs.Notes.{Note}
 use Rattle.run.specs.Promises.{Bounded}
 use Rattle.run.specs.Machines.{linksOf}
@@ -58,6 +59,11 @@ pub record Serving (reach : Reach) (mem₀ : List ℕ) (m₀ : Machine) (budget 
   pub over : g .left .0 ≤ 0 →
       ended (g .answer) mem (inRows cells returns rows copies (pointersIn g)) (budget - g .unspent .0) (g .cycles .0) ≡ runIn reach false budget mem₀ m₀ 0 0
 
+-- by whatever name its registers go
+pub serving-as : {reach : Reach} {mem₀ : List ℕ} {m₀ : Machine} {budget lost₀ : ℕ} {costs mem cells returns : List ℕ} {rows : List (List ℕ)} {copies : List ℕ} {g g′ : Registers} →
+    g′ ≡ g → Serving reach mem₀ m₀ budget lost₀ costs mem cells returns rows copies g → Serving reach mem₀ m₀ budget lost₀ costs mem cells returns rows copies g′
+serving-as {reach} {mem₀} {m₀} {budget} {lost₀} {costs} {mem} {cells} {returns} {rows} {copies} = subst⁻¹ (Serving reach mem₀ m₀ budget lost₀ costs mem cells returns rows copies)
+
 module _ {reach : Reach} {mem₀ : List ℕ} {m₀ : Machine} {budget lost₀ : ℕ} {costs mem cells returns : List ℕ} {rows : List (List ℕ)} {copies : List ℕ} {g : Registers}
     (now : Serving reach mem₀ m₀ budget lost₀ costs mem cells returns rows copies g) (less : 0 < g .left .0)
   where
@@ -79,7 +85,7 @@ module _ {reach : Reach} {mem₀ : List ℕ} {m₀ : Machine} {budget lost₀ : 
             let k = let-in-good true mem here (o .whole) (o .formed) in
             (subst⁻¹ Whole entered (k .whole), subst⁻¹ Formed entered (k .formed))
 
-        pub stretch-starts : Starts reach mem there rows₁ copies₁ (g .left .0) costs
+        pub stretch-starts : Starts reach mem there rows₁ copies₁ (g .left .0) costs true
         stretch-starts =
             record {
               accepted =
@@ -91,6 +97,7 @@ module _ {reach : Reach} {mem₀ : List ℕ} {m₀ : Machine} {budget lost₀ : 
               priced = now .prices;
               calm = subst⁻¹ (λ (b : Bool). Calm b (noteIn rows₁ .aside .lines) (to .r) (to .s)) (now .lined) (lets .calm);
               unheeded = λ h. inr (lets .quiet-kept (now .unheeded (sym (lets .heeds-same) ∙ h)));
+              unasked = λ off. absurd (subst T off tt);
             }
 
         -- the run from here, in whatever it counts, is the run from where the line has entered
@@ -203,7 +210,7 @@ module _ {reach : Reach} {mem₀ : List ℕ} {m₀ : Machine} {budget lost₀ : 
                 }
 
             pub stretched : {g′ : Registers} → g′ ≡ joinedTo g after → Serving reach mem₀ m₀ budget lost₀ costs mem′ cells′ returns′ rows′ copies′ g′
-            stretched eg = subst⁻¹ (Serving reach mem₀ m₀ budget lost₀ costs mem′ cells′ returns′ rows′ copies′) eg (go (after .again) refl)
+            stretched eg = serving-as eg (go (after .again) refl)
               where
                 go : (b : Bool) → after .again ≡ b → Serving reach mem₀ m₀ budget lost₀ costs mem′ cells′ returns′ rows′ copies′ (pick b on-regs over-regs)
                 go true is = on-then is
@@ -215,6 +222,13 @@ module _ {reach : Reach} {mem₀ : List ℕ} {m₀ : Machine} {budget lost₀ : 
                 go : (b : Bool) → after .again ≡ b → pick b on-regs over-regs .left .0 < g .left .0
                 go true is = ends .goes is .less
                 go false not = omega (arith, ends .leaves .nothing-left)
+
+            pub stretched-unmarked : {g′ : Registers} → g′ ≡ joinedTo g after → g′ .again ≡ false
+            stretched-unmarked eg = ap (λ (x : Registers). x .again) eg ∙ go (after .again) refl
+              where
+                go : (b : Bool) → after .again ≡ b → pick b on-regs over-regs .again ≡ false
+                go true is = refl
+                go false not = not
 
             pub joins : g .cycles .0 + after .cycles .0 ≤ 42 * mostBudget
             joins =
@@ -297,6 +311,52 @@ serving-first {reach} {mem} {cells} {returns} {rows} {copies} {start} {left} {co
           let all : left - left ≡ left - 0 = omega arith in
           sym (rest ∙ (ap (λ (k : ℕ). runIn reach false k mem m (left - left) 0) zero ∙ ap (λ (k : ℕ). runIn reach false 0 mem m k 0) all));
     }
+
+-- registers that are parked leave the machine as it was
+module _ {rows rows′ : List (List ℕ)} {copies copies′ : List ℕ} {g : Registers} (parks : Parks rows copies g rows′ copies′) where
+  pub machine-parked : (cells returns : List ℕ) (at : Pointers) → inRows cells returns rows′ copies′ at ≡ inRows cells returns rows copies at
+  machine-parked cells returns at =
+      let h = parks .held in
+      ap (λ (f : List Frame). seated f (levelsIn rows′ copies′) (noteIn rows′)) (h .frames-are) ∙
+      (ap (λ (v : List Level). seated (framesIn rows copies) v (noteIn rows′)) (h .levels-are) ∙ ap (seated (framesIn rows copies) (levelsIn rows copies)) (h .note-is))
+    where
+      seated : List Frame → List Level → Note → Machine
+      seated f v n =
+          record {
+            cells = cells;
+            p = at .p;
+            links = linksOf returns (at .r) f (at .s) v (at .e);
+            counter = at .counter;
+            flag = at .flag;
+            thrown = n .aside .thrown;
+            lines = n .aside .lines;
+          }
+
+  pub serving-parked : {reach : Reach} {mem₀ : List ℕ} {m₀ m₁ : Machine} {budget lost₀ lost₁ : ℕ} {costs mem cells returns : List ℕ} →
+      m₁ ≡ m₀ → lost₁ ≡ lost₀ → g .again ≡ false → Serving reach mem₀ m₀ budget lost₀ costs mem cells returns rows copies g →
+      Serving reach mem₀ m₁ budget lost₁ costs mem cells returns rows′ copies′ (parkedIn rows′ copies′)
+  serving-parked {reach} {mem₀} {m₀} {m₁} {budget} {lost₀} {lost₁} {costs} {mem} {cells} {returns} em el not now =
+      subst⁻¹ (Serving reach mem₀ m₁ budget lost₁ costs mem cells returns rows′ copies′) (parks .parked not)
+      (subst⁻¹ (λ (m : Machine). Serving reach mem₀ m budget lost₁ costs mem cells returns rows′ copies′ g) em
+      (subst⁻¹ (λ (l : ℕ). Serving reach mem₀ m₀ budget l costs mem cells returns rows′ copies′ g) el
+      (let same = machine-parked cells returns (pointersIn g) in
+      let noted = parks .held .note-is in
+      record {
+        bounded = now .bounded;
+        lined = now .lined;
+        prices = now .prices;
+        limit = now .limit;
+        left-within = now .left-within;
+        unspent-within = now .unspent-within;
+        priced = now .priced;
+        long₀ = now .long₀;
+        long = now .long;
+        laid = parks .held .laid;
+        loses = ap (λ (n : Note). n .lost % 2 ^ 32) noted ∙ now .loses;
+        unheeded = λ h. ap (λ (n : Note). lowestDue (n .aside .lines)) noted ∙ now .unheeded (sym (ap (λ (n : Note). n .heeds) noted) ∙ h);
+        going = λ less. subst⁻¹ (λ (m : Machine). Onward reach mem₀ m₀ budget mem m g) same (now .going less);
+        over = λ spent. ap (λ (m : Machine). ended (g .answer) mem m (budget - g .unspent .0) (g .cycles .0)) same ∙ now .over spent;
+      })))
 
 pub serving-last : {reach : Reach} {mem₀ : List ℕ} {m₀ m₁ : Machine} {budget lost₀ lost₁ : ℕ} → m₀ ≡ m₁ → lost₀ ≡ lost₁ → {costs mem cells returns : List ℕ} {rows : List (List ℕ)} {copies : List ℕ} {g : Registers} →
     Serving reach mem₀ m₀ budget lost₀ costs mem cells returns rows copies g → g .left .0 ≤ 0 → Served reach mem₀ m₁ budget lost₁ mem cells returns rows copies g

@@ -35,6 +35,6 @@ pub data Calm (lined : Bool) (l : Lines) (r s : ℕ) : Type 0 where
   no-return-room : returnsDepth ≤ r → Calm lined l r s
   no-frame-room : subroutinesDepth ≤ s → Calm lined l r s
 
--- a line might enter: one might in this run, and no routine is in progress
-abbrev pub heldIn : ℕ → Lines → Bool
-heldIn heeds l = pick (eqb heeds 0) false (eqb (l .block) 0)
+-- a line might enter: lines are asked for at all, one might in this run, and no routine is in progress
+abbrev pub heldIn : Bool → ℕ → Lines → Bool
+heldIn lines heeds l = pick lines (pick (eqb heeds 0) false (eqb (l .block) 0)) false

@@ -1,5 +1,6 @@
 -- A machine as the loop has it: a row of numbers for each level, since no array of structs can be lent.
 use mathlib.Core.Path.{_≡_}
+use mathlib.Core.Bool.{false}
 use mathlib.Core.List.{List, [], _∷_, _++_}
 use Prim.Native.Nat.{ℕ, zero, suc, _+_, _<_}
 use lib.ListN.{getD, set, take, drop, length}
@@ -75,6 +76,29 @@ pub record Hold (rows : List (List ℕ)) (copies : List ℕ) (frames : List Fram
   pub frames-are : framesIn rows copies ≡ frames
   pub levels-are : levelsIn rows copies ≡ levels
   pub note-is : noteIn rows ≡ note
+
+-- the registers between two stretches of a run: numbers of the note's row, and pointers behind the copies
+unfoldable pub parkedIn : List (List ℕ) → List ℕ → Registers
+parkedIn rows copies =
+    let row = getD rows noteRow [] in
+    record {
+      p = getD copies 60 0;
+      r = getD copies 61 0;
+      s = getD copies 62 0;
+      e = getD copies 63 0;
+      counter = getD row 7 0;
+      flag = getD row 8 0;
+      left = record { 0 = getD row 9 0 };
+      cycles = record { 0 = getD row 10 0 };
+      answer = getD row 11 0;
+      unspent = record { 0 = getD row 12 0 };
+      again = false;
+    }
+
+-- they are parked, and nothing else is altered
+pub record Parks (rows : List (List ℕ)) (copies : List ℕ) (g : Registers) (rows′ : List (List ℕ)) (copies′ : List ℕ) : Type 0 where
+  pub held : Hold rows′ copies′ (framesIn rows copies) (levelsIn rows copies) (noteIn rows)
+  pub parked : g .again ≡ false → parkedIn rows′ copies′ ≡ g
 
 -- how many cells are in view
 abbrev pub viewCells : ℕ

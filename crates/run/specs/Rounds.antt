@@ -21,7 +21,7 @@ use Rattle.run.specs.Levels.{framesIn, levelsIn, noteIn, Laid}
 use Rattle.run.specs.declared.Registers.{Registers}
 
 -- a machine that a run takes, in arrays of their lengths, and the prices; no line enters first, or in the whole run unless it is heeded
-pub record Starts (reach : Reach) (mem : List ℕ) (m : Machine) (rows : List (List ℕ)) (copies : List ℕ) (left : ℕ) (costs : List ℕ) : Type 0 where
+pub record Starts (reach : Reach) (mem : List ℕ) (m : Machine) (rows : List (List ℕ)) (copies : List ℕ) (left : ℕ) (costs : List ℕ) (lines : Bool) : Type 0 where
   pub accepted : acceptable mem m left ≡ true
   pub whole : Whole m
   pub laid : Laid rows copies
@@ -29,6 +29,7 @@ pub record Starts (reach : Reach) (mem : List ℕ) (m : Machine) (rows : List (L
   pub priced : costs ≡ cycleTable
   pub calm : Calm (linesEnter reach) (m .lines) (m .links .r) (m .links .s)
   pub unheeded : noteIn rows .heeds ≡ 0 → Quiet (linesEnter reach) (m .lines)
+  pub unasked : lines ≡ false → noteIn rows .heeds ≡ 0
 
 -- the same of a run that lines may enter
 pub record Takes (reach : Reach) (mem : List ℕ) (m : Machine) (rows : List (List ℕ)) (copies : List ℕ) (left : ℕ) (costs : List ℕ) : Type 0 where

@@ -129,6 +129,7 @@ pub(crate) fn fresh(mem: &mut [u8], filled: [u32; Machine::CELLS], p: usize, bud
         budget,
         ALONE,
         false,
+        false,
     );
     finished(&cells, &returns, &rows, &copies, regs, budget)
 }

@@ -1,11 +1,14 @@
-// The subroutine and the exception levels as the loop has them: a row of numbers for each level, its cells and its address; the last
-// THROW, what the memory lost and the interrupt lines in a row behind them; and the copies of R, S and P beside. No array of structs can be lent (docs/DECISIONS.md), and each
-// further array costs a turn four to six instructions.
+// The subroutine and the exception levels as the loop has them: a row of numbers for each level, its cells and its address; in a row
+// behind them the last THROW, what the memory lost, the interrupt lines, and registers while they are parked; and the copies of R, S and P beside.
+// No array of structs can be lent (docs/DECISIONS.md), and each further array costs a turn four to six instructions.
+use crate::Registers;
 use links::Frame;
 use links::Level;
 use links::Links;
+use machine::Cycles;
 use machine::LastThrow;
 use machine::Lines;
+use machine::Steps;
 ghost use mathlib.Core.List.{List};
 ghost use mathlib.Core.Path.{_≡_};
 ghost use Prim.Native.Nat.{ℕ, _+_, _*_, _%_, _^_, _<_};
@@ -16,11 +19,11 @@ ghost use Rattle.links.specs.Depths.{framesCount, levelsCount, localsCount, lev
 ghost use Rattle.links.specs.Linked.{noFrame, noLevel, copyOfR, copyOfS, copyOfP};
 ghost use Rattle.machine.specs.View.{bytesOfCells, overwritten};
 ghost use Rattle.machine.specs.Lines.{released};
-ghost use Rattle.run.specs.Levels.{framesIn, levelsIn, noteIn, seenIn, Laid, Hold, Keep};
+ghost use Rattle.run.specs.Levels.{framesIn, levelsIn, noteIn, seenIn, parkedIn, Laid, Hold, Parks, Keep};
 ghost use Rattle.run.specs.Calm.{heldIn};
 ghost use Rattle.run.specs.Notes.{withThrown, withLost, withLines, heeding};
 
-// The row of the last THROW, of what the memory lost and of the interrupt lines stands behind those of the subroutine levels and of the exception levels.
+// The row behind those of the subroutine levels and of the exception levels.
 const NOTE: usize = Links::FRAMES + Links::LEVELS;
 
 pub(crate) const ROWS: usize = NOTE + 1;
@@ -28,7 +31,8 @@ pub(crate) const ROWS: usize = NOTE + 1;
 // 16 locals or 8 cells, and the address at the row's end.
 pub(crate) const ROW: usize = Frame::LOCALS + 1;
 
-// The copies of R, then those of S, then those of P: 51, and room up to a power of two, so that a task's place is found by a shift.
+// The copies of R, then those of S, then those of P: 51, and room up to a power of two, so that a task's place is found by a shift. The
+// last four places take P, R, S and E while they are parked.
 pub(crate) const COPIES: usize = 64;
 
 pub(crate) fn copy_of_r(copies: &[usize; COPIES], s: usize) -> usize
@@ -135,14 +139,61 @@ pub(crate) fn heed(rows: &mut [[u32; ROW]; ROWS])
     rows[NOTE][6] = 1;
 }
 
-// A line might enter, since no routine is in progress.
-pub(crate) fn held(rows: &[[u32; ROW]; ROWS]) -> bool
-    ensures { λ b. ⌜ b ≡ heldIn (noteIn (now (rows .entry)) .heeds) (noteIn (now (rows .entry)) .aside .lines) ⌝ }
+// A line might enter: one is heeded, and no routine is in progress. Where no line can be raised, nothing is looked up.
+pub(crate) fn held(rows: &[[u32; ROW]; ROWS], lines: bool) -> bool
+    ensures { λ b. ⌜ b ≡ heldIn lines (noteIn (now (rows .entry)) .heeds) (noteIn (now (rows .entry)) .aside .lines) ⌝ }
 {
-    if rows[NOTE][6] == 0 {
-        return false;
+    if lines {
+        if rows[NOTE][6] == 0 {
+            return false;
+        }
+        return rows[NOTE][5] == 0;
     }
-    rows[NOTE][5] == 0
+    false
+}
+
+// The registers are parked between two stretches of a run, in the same row and behind the copies: as variables they would take the
+// processor's own registers from the loop (docs/SPEED.md).
+pub(crate) fn park(rows: &mut [[u32; ROW]; ROWS], copies: &mut [usize; COPIES], regs: Registers)
+    ensures { λ _. ⌜ (Laid (now (rows .entry)) (now (copies .entry)) → Parks (now (rows .entry)) (now (copies .entry)) regs (now (rows .exit)) (now (copies .exit))) ⌝ }
+{
+    let mut row = rows[NOTE];
+    row[7] = regs.counter;
+    row[8] = regs.flag;
+    row[9] = regs.left.0;
+    row[10] = regs.cycles.0;
+    row[11] = regs.answer;
+    row[12] = regs.unspent.0;
+    rows[NOTE] = row;
+    copies[60] = regs.p;
+    copies[61] = regs.r;
+    copies[62] = regs.s;
+    copies[63] = regs.e;
+}
+
+pub(crate) fn parked(rows: &[[u32; ROW]; ROWS], copies: &[usize; COPIES]) -> Registers
+    ensures { λ g. ⌜ g ≡ parkedIn (now (rows .entry)) (now (copies .entry)) ⌝ }
+{
+    Registers {
+        p: copies[60],
+        r: copies[61],
+        s: copies[62],
+        e: copies[63],
+        counter: rows[NOTE][7],
+        flag: rows[NOTE][8],
+        left: Steps(rows[NOTE][9]),
+        cycles: Cycles(rows[NOTE][10]),
+        answer: rows[NOTE][11],
+        unspent: Steps(rows[NOTE][12]),
+        again: false,
+    }
+}
+
+// What is left of the budget between two stretches.
+pub(crate) fn left(rows: &[[u32; ROW]; ROWS]) -> u32
+    ensures { λ n. ⌜ ((copies : List ℕ) → n ≡ parkedIn (now (rows .entry)) copies .left .0) ⌝ }
+{
+    rows[NOTE][9]
 }
 
 // A cell is four bytes in view.

@@ -29,8 +29,8 @@ ghost use Rattle.run.specs.Rounds.{Starts, Ends};
 // Each round is one step: the instruction is fetched and its checks are made, and what refuses it ends the run; then the lent
 // arrays and the registers are changed in place. The loop's own test is the one way out: a run that no answer ends has spent
 // its budget, answer 1. No line can enter at its start, and it ends behind the first instruction after which one might: to test at every
-// step costs every step (docs/SPEED.md). The registers come in and go out field by field: handed over whole, the compiler keeps them in
-// memory.
+// step costs every step (docs/SPEED.md). Where no line can be raised, `lines` is false and spares that test too. The registers come in
+// and go out field by field: handed over whole, the compiler keeps them in memory.
 pub(crate) fn rounds(
     mem: &mut [u8],
     cells: &mut [u32; Machine::CELLS],
@@ -42,8 +42,9 @@ pub(crate) fn rounds(
     left: u32,
     reach: Reach,
     turns: bool,
+    lines: bool,
 ) -> Registers
-    requires { ⌜ Starts reach (now mem) (inRows (now cells) (now returns) (now rows) (now copies) start) (now rows) (now copies) left (now costs) ⌝ }
+    requires { ⌜ Starts reach (now mem) (inRows (now cells) (now returns) (now rows) (now copies) start) (now rows) (now copies) left (now costs) lines ⌝ }
     ensures { λ g. ⌜ Ends reach turns (now (mem .entry)) (inRows (now (cells .entry)) (now (returns .entry)) (now (rows .entry)) (now (copies .entry)) start) left (noteIn (now (rows .entry))) (now (mem .exit)) (now (cells .exit)) (now (returns .exit)) (now (rows .exit)) (now (copies .exit)) g ⌝ }
 {
     let mut regs = Registers {
@@ -130,7 +131,7 @@ pub(crate) fn rounds(
                 regs.e = checks::e_after_pop(lower, s, e, linked::copy_of_s(copies, e));
                 regs.counter = next;
                 regs = tally::counted(regs, price::price(costs, code));
-                regs = tally::parted(regs, linked::held(rows));
+                regs = tally::parted(regs, linked::held(rows, lines));
                 continue;
             }
             // CATCH ( address -- )
@@ -167,7 +168,7 @@ pub(crate) fn rounds(
                 regs.e = 0;
                 regs.counter = next;
                 regs = tally::counted(regs, price::price(costs, code));
-                regs = tally::parted(regs, linked::held(rows));
+                regs = tally::parted(regs, linked::held(rows, lines));
                 continue;
             }
             // THROW ( 0 -- ) or ( .. n -- .. n )
@@ -197,7 +198,7 @@ pub(crate) fn rounds(
                         regs.e = e - 1;
                         regs.counter = to;
                         regs = tally::counted(regs, price::price(costs, code));
-                        regs = tally::parted(regs, linked::held(rows));
+                        regs = tally::parted(regs, linked::held(rows, lines));
                         continue;
                     }
                 }
@@ -383,7 +384,7 @@ pub(crate) fn rounds(
                 regs.counter = linked::return_address(rows, s);
                 linked::release(rows);
                 regs = tally::counted(regs, price::price(costs, code));
-                regs = tally::parted(regs, linked::held(rows));
+                regs = tally::parted(regs, linked::held(rows, lines));
                 continue;
             }
             // EXIT
@@ -398,7 +399,7 @@ pub(crate) fn rounds(
                 regs.r = linked::copy_of_r(copies, s);
                 regs.counter = linked::return_address(rows, s);
                 regs = tally::counted(regs, price::price(costs, code));
-                regs = tally::parted(regs, linked::held(rows));
+                regs = tally::parted(regs, linked::held(rows, lines));
                 continue;
             }
             // PAUSE is a NOP but that it may pass the turn; its one cycle stands outside the table

@@ -69,8 +69,9 @@ pub(crate) fn served(
     ensures { λ g. ⌜ Served reach (now (mem .entry)) (inRows (now (cells .entry)) (now (returns .entry)) (now (rows .entry)) (now (copies .entry)) start) left (noteIn (now (rows .entry)) .lost) (now (mem .exit)) (now (cells .exit)) (now (returns .exit)) (now (rows .exit)) (now (copies .exit)) g ⌝ }
 {
     attend(rows);
-    let mut regs = tally::begun(start, left);
-    while 0 < regs.left.0 {
+    linked::park(rows, copies, tally::begun(start, left));
+    while 0 < linked::left(rows) {
+        let regs = linked::parked(rows, copies);
         let at = let_in(returns, rows, copies, parts::left_in(regs));
         let after = round::rounds(
             mem,
@@ -83,8 +84,9 @@ pub(crate) fn served(
             regs.left.0,
             reach,
             false,
+            true,
         );
-        regs = tally::joined(regs, after);
+        linked::park(rows, copies, tally::joined(regs, after));
     }
-    regs
+    linked::parked(rows, copies)
 }

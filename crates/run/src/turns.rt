@@ -111,6 +111,7 @@ pub(crate) fn turns(
             length,
             reach_of(t),
             true,
+            true,
         );
         saved[t] = parts::left_in(after);
         let from = ticks::closed(

@@ -1,4 +1,4 @@
--- Made by .ci/named from fresh.rules: d53550f0fd219a25 367e2b24c26e1f58
+-- Made by .ci/named from fresh.rules: 75b503a40fbdf8f4 d433c0c36e7a1c71
 -- Rows of zeros are fresh levels.
 use mathlib.Core.Path.{_≡_, refl, ap, _∙_, subst⁻¹}
 use mathlib.Core.Bool.{true}
@@ -19,7 +19,7 @@ use Rattle.run.proofs.alone.fresh.Tie as tie
 
 rounds-requires : tie.Need-rounds-requires
 unfolding cycleTable table freshLinks
-rounds-requires c κs = record { accepted = subst⁻¹ (λ (m : Machine). acceptable (c .before .before .before .before .before .before .before .args .mem .now) m (c .before .before .before .before .before .before .before .args .budget) ≡ true) (whole-again (freshWith (c .before .before .before .before .before .before .before .args .filled) (c .before .before .before .before .before .before .before .args .p)) zeros-fresh refl) (c .before .before .before .before .before .before .before .pre); whole = subst⁻¹ Whole (whole-again (freshWith (c .before .before .before .before .before .before .before .args .filled) (c .before .before .before .before .before .before .before .args .p)) zeros-fresh refl) (record { cells-long = search needs; shaped = record { returns-long = refl; frames-long = refl; levels-long = refl } }); laid = zeros-fresh .laid; bounded = record { shared-within = omega arith; end-within = omega arith }; priced = refl; calm = quiet (inr no-due); unheeded = λ h. inr no-due }
+rounds-requires c κs = record { accepted = subst⁻¹ (λ (m : Machine). acceptable (c .before .before .before .before .before .before .before .args .mem .now) m (c .before .before .before .before .before .before .before .args .budget) ≡ true) (whole-again (freshWith (c .before .before .before .before .before .before .before .args .filled) (c .before .before .before .before .before .before .before .args .p)) zeros-fresh refl) (c .before .before .before .before .before .before .before .pre); whole = subst⁻¹ Whole (whole-again (freshWith (c .before .before .before .before .before .before .before .args .filled) (c .before .before .before .before .before .before .before .args .p)) zeros-fresh refl) (record { cells-long = search needs; shaped = record { returns-long = refl; frames-long = refl; levels-long = refl } }); laid = zeros-fresh .laid; bounded = record { shared-within = omega arith; end-within = omega arith }; priced = refl; calm = quiet (inr no-due); unheeded = λ h. inr no-due; unasked = λ h. no-heed }
 
 finished-requires : tie.Need-finished-requires
 finished-requires c κs = (c .before .before .before .before .before .before .rounds .ensures .leaves .unspent-within, c .before .before .before .before .before .before .rounds .ensures .leaves .laid)

@@ -1,4 +1,4 @@
--- Made by .ci/named from rounds.rules: 2cfa1ae6e44ce34c 2aef1d3edf074d47
+-- Made by .ci/named from rounds.rules: 575128c7b0074b27 bbb32f3befe848cd
 -- The loop is the definition's run: each round is one step of `stepOf`, and what ends it is the definition's own.
 use mathlib.Core.Path.{_≡_, refl, ap, sym, _∙_}
 use mathlib.Core.Bool.{false}
@@ -36,12 +36,12 @@ use Rattle.run.proofs.round.rounds.Statement.{statement}
 use Rattle.run.proofs.round.rounds.Tie as tie
 
 abbrev Inv-loop : tie.InvT-loop
-Inv-loop mem₀ cells₀ returns₀ rows₀ copies₀ costs left reach turns regs₀ mem cells returns rows copies regs =
+Inv-loop mem₀ cells₀ returns₀ rows₀ copies₀ costs left reach turns lines regs₀ mem cells returns rows copies regs =
     Round reach turns mem₀ (machineIn cells₀ returns₀ (framesIn rows₀ copies₀) (levelsIn rows₀ copies₀) (noteIn rows₀ .aside) regs₀) left (noteIn rows₀ .heeds) mem cells returns (framesIn rows copies) (levelsIn rows copies) (noteIn rows .aside) regs ×
     ((costs ≡ cycleTable) × (Laid rows copies × ((noteIn rows .lost % 2 ^ 32 ≡ sumAfter (noteIn rows₀ .lost) mem mem₀) × ((noteIn rows .heeds ≡ noteIn rows₀ .heeds) × (lowestDue (noteIn rows .aside .lines) ≡ lowestDue (noteIn rows₀ .aside .lines))))))
 
 abbrev μ-loop : tie.MeasureT-loop
-μ-loop mem₀ cells₀ returns₀ rows₀ copies₀ costs left reach turns regs₀ mem cells returns rows copies regs = regs .left .0
+μ-loop mem₀ cells₀ returns₀ rows₀ copies₀ costs left reach turns lines regs₀ mem cells returns rows copies regs = regs .left .0
 
 abbrev loop-of : tie.After-known-told Inv-loop μ-loop → tie.At-loop Inv-loop μ-loop
 loop-of t = t .before .before .before .before .before .before .before .before .before .before
@@ -308,7 +308,7 @@ loop-less-10 : tie.Need-loop-less-10 Inv-loop μ-loop
 loop-less-10 c = omega (arith, c .before .before .before .counted4 .ensures .1, c .parted .ensures .1)
 
 loop-again-10 : tie.Need-loop-again-10 Inv-loop μ-loop
-loop-again-10 c = (goes-in (found (c .before .before .before .before .before .before .before .before .before .before .before .before .before .before .before .before .before)) (pop-acts (found (c .before .before .before .before .before .before .before .before .before .before .before .before .before .before .before .before .before)) (c .before .before .before .before .before .before .before .before .before .before .before .before .before .before .before .match3 .keys3) (c .before .before .before .before .before .before .before .before .before .s-after-pop .ensures ∙ ap (sAfterPop (c .before .before .before .before .before .before .before .before .before .before .before .before .before .before .before .before .before .before .before .before .before .before .before .before .before .before .before .loop .regs .r - 1) (c .before .before .before .before .before .before .before .before .before .before .before .before .before .before .before .before .before .before .before .before .before .before .before .before .before .before .before .loop .regs .s)) (c .before .before .before .before .before .before .before .before .before .before .copy-of-r .ensures (c .before .before .before .before .before .before .before .before .before .before .before .before .before .before .before .before .before .before .before .before .before .before .before .before .before .before .before .loop .rows))) (c .before .before .before .before .before .e-after-pop .ensures ∙ ap (eAfterPop (c .before .before .before .before .before .before .before .before .before .s-after-pop .result) (c .before .before .before .before .before .before .before .before .before .before .before .before .before .before .before .before .before .before .before .before .before .before .before .before .before .before .before .loop .regs .s) (c .before .before .before .before .before .before .before .before .before .before .before .before .before .before .before .before .before .before .before .before .before .before .before .before .before .before .before .loop .regs .e)) (c .before .before .before .before .before .before .copy-of-s .ensures (c .before .before .before .before .before .before .before .before .before .before .before .before .before .before .before .before .before .before .before .before .before .before .before .before .before .before .before .loop .rows)))) (told saysChecked (c .before .before .before .before .before .before .before .before .before .before .before .before .before .before .can-read2 .ensures) (c .before .before .before .before .before .before .before .before .before .before .before .before .enum-told7 .given .1)) refl refl (c .before .before .before .before .price4 .ensures .0) (c .before .before .before .counted4 .ensures .0) (c .before .before .before .before .before .before .before .before .before .before .before .before .before .before .before .before .before .before .before .before .before .before .before .before .before .before .before .loop .inv .1 .1 .1 .1 .0) (c .before .held .ensures) (c .parted .ensures .0) ((unheeded-now (noteIn (c .before .before .before .before .before .before .before .before .before .before .before .before .before .before .before .before .before .before .before .before .before .before .before .before .before .before .before .loop .rows) .aside .lines) (noteIn (c .before .before .before .before .before .before .before .before .before .before .before .before .before .before .before .before .before .before .before .before .before .before .before .before .before .before .before .before .before .args .rows .now) .aside .lines) (c .before .before .before .before .before .before .before .before .before .before .before .before .before .before .before .before .before .before .before .before .before .before .before .before .before .before .before .before .before .pre .unheeded)) (c .before .before .before .before .before .before .before .before .before .before .before .before .before .before .before .before .before .before .before .before .before .before .before .before .before .before .before .loop .inv .1 .1 .1 .1 .0) (c .before .before .before .before .before .before .before .before .before .before .before .before .before .before .before .before .before .before .before .before .before .before .before .before .before .before .before .loop .inv .1 .1 .1 .1 .1)), (c .before .before .before .before .before .before .before .before .before .before .before .before .before .before .before .before .before .before .before .before .before .before .before .before .before .before .before .loop .inv .1))
+loop-again-10 c = (goes-in (found (c .before .before .before .before .before .before .before .before .before .before .before .before .before .before .before .before .before)) (pop-acts (found (c .before .before .before .before .before .before .before .before .before .before .before .before .before .before .before .before .before)) (c .before .before .before .before .before .before .before .before .before .before .before .before .before .before .before .match3 .keys3) (c .before .before .before .before .before .before .before .before .before .s-after-pop .ensures ∙ ap (sAfterPop (c .before .before .before .before .before .before .before .before .before .before .before .before .before .before .before .before .before .before .before .before .before .before .before .before .before .before .before .loop .regs .r - 1) (c .before .before .before .before .before .before .before .before .before .before .before .before .before .before .before .before .before .before .before .before .before .before .before .before .before .before .before .loop .regs .s)) (c .before .before .before .before .before .before .before .before .before .before .copy-of-r .ensures (c .before .before .before .before .before .before .before .before .before .before .before .before .before .before .before .before .before .before .before .before .before .before .before .before .before .before .before .loop .rows))) (c .before .before .before .before .before .e-after-pop .ensures ∙ ap (eAfterPop (c .before .before .before .before .before .before .before .before .before .s-after-pop .result) (c .before .before .before .before .before .before .before .before .before .before .before .before .before .before .before .before .before .before .before .before .before .before .before .before .before .before .before .loop .regs .s) (c .before .before .before .before .before .before .before .before .before .before .before .before .before .before .before .before .before .before .before .before .before .before .before .before .before .before .before .loop .regs .e)) (c .before .before .before .before .before .before .copy-of-s .ensures (c .before .before .before .before .before .before .before .before .before .before .before .before .before .before .before .before .before .before .before .before .before .before .before .before .before .before .before .loop .rows)))) (told saysChecked (c .before .before .before .before .before .before .before .before .before .before .before .before .before .before .can-read2 .ensures) (c .before .before .before .before .before .before .before .before .before .before .before .before .enum-told7 .given .1)) refl refl (c .before .before .before .before .price4 .ensures .0) (c .before .before .before .counted4 .ensures .0) (c .before .before .before .before .before .before .before .before .before .before .before .before .before .before .before .before .before .before .before .before .before .before .before .before .before .before .before .loop .inv .1 .1 .1 .1 .0) (c .before .before .before .before .before .before .before .before .before .before .before .before .before .before .before .before .before .before .before .before .before .before .before .before .before .before .before .before .before .pre .unasked) (c .before .held .ensures) (c .parted .ensures .0) ((unheeded-now (noteIn (c .before .before .before .before .before .before .before .before .before .before .before .before .before .before .before .before .before .before .before .before .before .before .before .before .before .before .before .loop .rows) .aside .lines) (noteIn (c .before .before .before .before .before .before .before .before .before .before .before .before .before .before .before .before .before .before .before .before .before .before .before .before .before .before .before .before .before .args .rows .now) .aside .lines) (c .before .before .before .before .before .before .before .before .before .before .before .before .before .before .before .before .before .before .before .before .before .before .before .before .before .before .before .before .before .pre .unheeded)) (c .before .before .before .before .before .before .before .before .before .before .before .before .before .before .before .before .before .before .before .before .before .before .before .before .before .before .before .loop .inv .1 .1 .1 .1 .0) (c .before .before .before .before .before .before .before .before .before .before .before .before .before .before .before .before .before .before .before .before .before .before .before .before .before .before .before .loop .inv .1 .1 .1 .1 .1)), (c .before .before .before .before .before .before .before .before .before .before .before .before .before .before .before .before .before .before .before .before .before .before .before .before .before .before .before .loop .inv .1))
 
 can-catch-requires : tie.Need-can-catch-requires Inv-loop μ-loop
 can-catch-requires c κs = search needs
@@ -395,7 +395,7 @@ loop-less-13 : tie.Need-loop-less-13 Inv-loop μ-loop
 loop-less-13 c = omega (arith, c .before .before .before .counted6 .ensures .1, c .parted2 .ensures .1)
 
 loop-again-13 : tie.Need-loop-again-13 Inv-loop μ-loop
-loop-again-13 c = (goes-in (found (c .before .before .before .before .before .before .before)) (reset-acts (found (c .before .before .before .before .before .before .before)) (c .before .before .before .before .before .match3 .keys5)) refl refl refl (c .before .before .before .before .price6 .ensures .0) (c .before .before .before .counted6 .ensures .0) (c .before .before .before .before .before .before .before .before .before .before .before .before .before .before .before .before .before .loop .inv .1 .1 .1 .1 .0) (c .before .held2 .ensures) (c .parted2 .ensures .0) ((unheeded-now (noteIn (c .before .before .before .before .before .before .before .before .before .before .before .before .before .before .before .before .before .loop .rows) .aside .lines) (noteIn (c .before .before .before .before .before .before .before .before .before .before .before .before .before .before .before .before .before .before .before .args .rows .now) .aside .lines) (c .before .before .before .before .before .before .before .before .before .before .before .before .before .before .before .before .before .before .before .pre .unheeded)) (c .before .before .before .before .before .before .before .before .before .before .before .before .before .before .before .before .before .loop .inv .1 .1 .1 .1 .0) (c .before .before .before .before .before .before .before .before .before .before .before .before .before .before .before .before .before .loop .inv .1 .1 .1 .1 .1)), (c .before .before .before .before .before .before .before .before .before .before .before .before .before .before .before .before .before .loop .inv .1))
+loop-again-13 c = (goes-in (found (c .before .before .before .before .before .before .before)) (reset-acts (found (c .before .before .before .before .before .before .before)) (c .before .before .before .before .before .match3 .keys5)) refl refl refl (c .before .before .before .before .price6 .ensures .0) (c .before .before .before .counted6 .ensures .0) (c .before .before .before .before .before .before .before .before .before .before .before .before .before .before .before .before .before .loop .inv .1 .1 .1 .1 .0) (c .before .before .before .before .before .before .before .before .before .before .before .before .before .before .before .before .before .before .before .pre .unasked) (c .before .held2 .ensures) (c .parted2 .ensures .0) ((unheeded-now (noteIn (c .before .before .before .before .before .before .before .before .before .before .before .before .before .before .before .before .before .loop .rows) .aside .lines) (noteIn (c .before .before .before .before .before .before .before .before .before .before .before .before .before .before .before .before .before .before .before .args .rows .now) .aside .lines) (c .before .before .before .before .before .before .before .before .before .before .before .before .before .before .before .before .before .before .before .pre .unheeded)) (c .before .before .before .before .before .before .before .before .before .before .before .before .before .before .before .before .before .loop .inv .1 .1 .1 .1 .0) (c .before .before .before .before .before .before .before .before .before .before .before .before .before .before .before .before .before .loop .inv .1 .1 .1 .1 .1)), (c .before .before .before .before .before .before .before .before .before .before .before .before .before .before .before .before .before .loop .inv .1))
 
 can-throw-requires : tie.Need-can-throw-requires Inv-loop μ-loop
 can-throw-requires c κs = search needs
@@ -479,7 +479,7 @@ loop-less-16 : tie.Need-loop-less-16 Inv-loop μ-loop
 loop-less-16 c = omega (arith, c .before .before .before .counted8 .ensures .1, c .parted3 .ensures .1)
 
 loop-again-16 : tie.Need-loop-again-16 Inv-loop μ-loop
-loop-again-16 c = (goes-in (found (c .before .before .before .before .before .before .before .before .before .before .before .before .before .before .before .before .before .before .before .before .before .before .before .before .before)) (throw-acts (found (c .before .before .before .before .before .before .before .before .before .before .before .before .before .before .before .before .before .before .before .before .before .before .before .before .before)) (c .before .before .before .before .before .before .before .before .before .before .before .before .before .before .before .before .before .before .before .before .before .before .before .match3 .keys6)) (told saysThrown (c .before .before .before .before .before .before .before .before .before .before .before .before .before .before .before .before .before .before .before .before .before .can-throw .ensures) (c .before .before .before .before .before .before .before .before .before .before .before .before .before .before .before .before .before .before .before .thrown .given .1 ∙ ap thrown.Found (c .before .before .before .before .before .before .before .before .before .before .before .before .before .before .before .before .throw .given .1))) (thrown-there (found (c .before .before .before .before .before .before .before .before .before .before .before .before .before .before .before .before .before .before .before .before .before .before .before .before .before)) (c .before .before .before .before .before .before .before .before .before .before .before .before .before .before .before .before .throw .given .0 .0) (c .before .before .before .before .before .before .before .before .before .before .before .copy-of-p .ensures (c .before .before .before .before .before .before .before .before .before .before .before .before .before .before .before .before .before .before .before .before .before .before .before .before .before .before .before .before .before .before .before .before .before .before .before .loop .rows)) (c .before .before .before .before .before .before .before .before .before .before .before .before .before .copy-of-s2 .ensures (c .before .before .before .before .before .before .before .before .before .before .before .before .before .before .before .before .before .before .before .before .before .before .before .before .before .before .before .before .before .before .before .before .before .before .before .loop .rows)) (c .before .before .before .before .before .copy-of-r2 .ensures (c .before .before .before .before .before .before .before .before .before .before .before .before .before .before .before .before .before .before .before .before .before .before .before .before .before .before .before .before .before .before .before .before .before .before .before .loop .rows)) (c .before .before .before .before .before .before .before .before .before .throw-address .ensures (c .before .before .before .before .before .before .before .before .before .before .before .before .before .before .before .before .before .before .before .before .before .before .before .before .before .before .before .before .before .before .before .before .before .before .before .loop .copies)) ∙ held-there (c .before .before .before .before .before .before .before .note .ensures (c .before .before .before .before .before .before .before .before .before .before .before .before .before .before .before .before .before .before .before .before .before .before .before .before .before .before .before .before .before .before .before .before .before .before .before .loop .copies) (c .before .before .before .before .before .before .before .before .before .before .before .before .before .before .before .before .before .before .before .before .before .before .before .before .before .before .before .before .before .before .before .before .before .before .before .loop .inv .1 .1 .0))) refl (c .before .before .before .before .price7 .ensures .0) (c .before .before .before .counted8 .ensures .0) (ap (λ (n : Note). n .heeds) ((c .before .before .before .before .before .before .before .note .ensures (c .before .before .before .before .before .before .before .before .before .before .before .before .before .before .before .before .before .before .before .before .before .before .before .before .before .before .before .before .before .before .before .before .before .before .before .loop .copies) (c .before .before .before .before .before .before .before .before .before .before .before .before .before .before .before .before .before .before .before .before .before .before .before .before .before .before .before .before .before .before .before .before .before .before .before .loop .inv .1 .1 .0)) .note-is) ∙ (c .before .before .before .before .before .before .before .before .before .before .before .before .before .before .before .before .before .before .before .before .before .before .before .before .before .before .before .before .before .before .before .before .before .before .before .loop .inv .1 .1 .1 .1 .0)) (c .before .held3 .ensures) (c .parted3 .ensures .0) ((unheeded-now (noteIn (c .before .before .before .before .before .before .before .note .last .0) .aside .lines) (noteIn (c .before .before .before .before .before .before .before .before .before .before .before .before .before .before .before .before .before .before .before .before .before .before .before .before .before .before .before .before .before .before .before .before .before .before .before .before .before .args .rows .now) .aside .lines) (c .before .before .before .before .before .before .before .before .before .before .before .before .before .before .before .before .before .before .before .before .before .before .before .before .before .before .before .before .before .before .before .before .before .before .before .before .before .pre .unheeded)) (ap (λ (n : Note). n .heeds) ((c .before .before .before .before .before .before .before .note .ensures (c .before .before .before .before .before .before .before .before .before .before .before .before .before .before .before .before .before .before .before .before .before .before .before .before .before .before .before .before .before .before .before .before .before .before .before .loop .copies) (c .before .before .before .before .before .before .before .before .before .before .before .before .before .before .before .before .before .before .before .before .before .before .before .before .before .before .before .before .before .before .before .before .before .before .before .loop .inv .1 .1 .0)) .note-is) ∙ (c .before .before .before .before .before .before .before .before .before .before .before .before .before .before .before .before .before .before .before .before .before .before .before .before .before .before .before .before .before .before .before .before .before .before .before .loop .inv .1 .1 .1 .1 .0)) (ap (λ (n : Note). lowestDue (n .aside .lines)) ((c .before .before .before .before .before .before .before .note .ensures (c .before .before .before .before .before .before .before .before .before .before .before .before .before .before .before .before .before .before .before .before .before .before .before .before .before .before .before .before .before .before .before .before .before .before .before .loop .copies) (c .before .before .before .before .before .before .before .before .before .before .before .before .before .before .before .before .before .before .before .before .before .before .before .before .before .before .before .before .before .before .before .before .before .before .before .loop .inv .1 .1 .0)) .note-is) ∙ (c .before .before .before .before .before .before .before .before .before .before .before .before .before .before .before .before .before .before .before .before .before .before .before .before .before .before .before .before .before .before .before .before .before .before .before .loop .inv .1 .1 .1 .1 .1))), (c .before .before .before .before .before .before .before .before .before .before .before .before .before .before .before .before .before .before .before .before .before .before .before .before .before .before .before .before .before .before .before .before .before .before .before .loop .inv .1 .0, ((c .before .before .before .before .before .before .before .note .ensures (c .before .before .before .before .before .before .before .before .before .before .before .before .before .before .before .before .before .before .before .before .before .before .before .before .before .before .before .before .before .before .before .before .before .before .before .loop .copies) (c .before .before .before .before .before .before .before .before .before .before .before .before .before .before .before .before .before .before .before .before .before .before .before .before .before .before .before .before .before .before .before .before .before .before .before .loop .inv .1 .1 .0)) .laid, (ap (λ (n : Note). n .lost % 2 ^ 32) ((c .before .before .before .before .before .before .before .note .ensures (c .before .before .before .before .before .before .before .before .before .before .before .before .before .before .before .before .before .before .before .before .before .before .before .before .before .before .before .before .before .before .before .before .before .before .before .loop .copies) (c .before .before .before .before .before .before .before .before .before .before .before .before .before .before .before .before .before .before .before .before .before .before .before .before .before .before .before .before .before .before .before .before .before .before .before .loop .inv .1 .1 .0)) .note-is) ∙ (c .before .before .before .before .before .before .before .before .before .before .before .before .before .before .before .before .before .before .before .before .before .before .before .before .before .before .before .before .before .before .before .before .before .before .before .loop .inv .1 .1 .1 .0), ((ap (λ (n : Note). n .heeds) ((c .before .before .before .before .before .before .before .note .ensures (c .before .before .before .before .before .before .before .before .before .before .before .before .before .before .before .before .before .before .before .before .before .before .before .before .before .before .before .before .before .before .before .before .before .before .before .loop .copies) (c .before .before .before .before .before .before .before .before .before .before .before .before .before .before .before .before .before .before .before .before .before .before .before .before .before .before .before .before .before .before .before .before .before .before .before .loop .inv .1 .1 .0)) .note-is) ∙ (c .before .before .before .before .before .before .before .before .before .before .before .before .before .before .before .before .before .before .before .before .before .before .before .before .before .before .before .before .before .before .before .before .before .before .before .loop .inv .1 .1 .1 .1 .0)), (ap (λ (n : Note). lowestDue (n .aside .lines)) ((c .before .before .before .before .before .before .before .note .ensures (c .before .before .before .before .before .before .before .before .before .before .before .before .before .before .before .before .before .before .before .before .before .before .before .before .before .before .before .before .before .before .before .before .before .before .before .loop .copies) (c .before .before .before .before .before .before .before .before .before .before .before .before .before .before .before .before .before .before .before .before .before .before .before .before .before .before .before .before .before .before .before .before .before .before .before .loop .inv .1 .1 .0)) .note-is) ∙ (c .before .before .before .before .before .before .before .before .before .before .before .before .before .before .before .before .before .before .before .before .before .before .before .before .before .before .before .before .before .before .before .before .before .before .before .loop .inv .1 .1 .1 .1 .1)))))))
+loop-again-16 c = (goes-in (found (c .before .before .before .before .before .before .before .before .before .before .before .before .before .before .before .before .before .before .before .before .before .before .before .before .before)) (throw-acts (found (c .before .before .before .before .before .before .before .before .before .before .before .before .before .before .before .before .before .before .before .before .before .before .before .before .before)) (c .before .before .before .before .before .before .before .before .before .before .before .before .before .before .before .before .before .before .before .before .before .before .before .match3 .keys6)) (told saysThrown (c .before .before .before .before .before .before .before .before .before .before .before .before .before .before .before .before .before .before .before .before .before .can-throw .ensures) (c .before .before .before .before .before .before .before .before .before .before .before .before .before .before .before .before .before .before .before .thrown .given .1 ∙ ap thrown.Found (c .before .before .before .before .before .before .before .before .before .before .before .before .before .before .before .before .throw .given .1))) (thrown-there (found (c .before .before .before .before .before .before .before .before .before .before .before .before .before .before .before .before .before .before .before .before .before .before .before .before .before)) (c .before .before .before .before .before .before .before .before .before .before .before .before .before .before .before .before .throw .given .0 .0) (c .before .before .before .before .before .before .before .before .before .before .before .copy-of-p .ensures (c .before .before .before .before .before .before .before .before .before .before .before .before .before .before .before .before .before .before .before .before .before .before .before .before .before .before .before .before .before .before .before .before .before .before .before .loop .rows)) (c .before .before .before .before .before .before .before .before .before .before .before .before .before .copy-of-s2 .ensures (c .before .before .before .before .before .before .before .before .before .before .before .before .before .before .before .before .before .before .before .before .before .before .before .before .before .before .before .before .before .before .before .before .before .before .before .loop .rows)) (c .before .before .before .before .before .copy-of-r2 .ensures (c .before .before .before .before .before .before .before .before .before .before .before .before .before .before .before .before .before .before .before .before .before .before .before .before .before .before .before .before .before .before .before .before .before .before .before .loop .rows)) (c .before .before .before .before .before .before .before .before .before .throw-address .ensures (c .before .before .before .before .before .before .before .before .before .before .before .before .before .before .before .before .before .before .before .before .before .before .before .before .before .before .before .before .before .before .before .before .before .before .before .loop .copies)) ∙ held-there (c .before .before .before .before .before .before .before .note .ensures (c .before .before .before .before .before .before .before .before .before .before .before .before .before .before .before .before .before .before .before .before .before .before .before .before .before .before .before .before .before .before .before .before .before .before .before .loop .copies) (c .before .before .before .before .before .before .before .before .before .before .before .before .before .before .before .before .before .before .before .before .before .before .before .before .before .before .before .before .before .before .before .before .before .before .before .loop .inv .1 .1 .0))) refl (c .before .before .before .before .price7 .ensures .0) (c .before .before .before .counted8 .ensures .0) (ap (λ (n : Note). n .heeds) ((c .before .before .before .before .before .before .before .note .ensures (c .before .before .before .before .before .before .before .before .before .before .before .before .before .before .before .before .before .before .before .before .before .before .before .before .before .before .before .before .before .before .before .before .before .before .before .loop .copies) (c .before .before .before .before .before .before .before .before .before .before .before .before .before .before .before .before .before .before .before .before .before .before .before .before .before .before .before .before .before .before .before .before .before .before .before .loop .inv .1 .1 .0)) .note-is) ∙ (c .before .before .before .before .before .before .before .before .before .before .before .before .before .before .before .before .before .before .before .before .before .before .before .before .before .before .before .before .before .before .before .before .before .before .before .loop .inv .1 .1 .1 .1 .0)) (c .before .before .before .before .before .before .before .before .before .before .before .before .before .before .before .before .before .before .before .before .before .before .before .before .before .before .before .before .before .before .before .before .before .before .before .before .before .pre .unasked) (c .before .held3 .ensures) (c .parted3 .ensures .0) ((unheeded-now (noteIn (c .before .before .before .before .before .before .before .note .last .0) .aside .lines) (noteIn (c .before .before .before .before .before .before .before .before .before .before .before .before .before .before .before .before .before .before .before .before .before .before .before .before .before .before .before .before .before .before .before .before .before .before .before .before .before .args .rows .now) .aside .lines) (c .before .before .before .before .before .before .before .before .before .before .before .before .before .before .before .before .before .before .before .before .before .before .before .before .before .before .before .before .before .before .before .before .before .before .before .before .before .pre .unheeded)) (ap (λ (n : Note). n .heeds) ((c .before .before .before .before .before .before .before .note .ensures (c .before .before .before .before .before .before .before .before .before .before .before .before .before .before .before .before .before .before .before .before .before .before .before .before .before .before .before .before .before .before .before .before .before .before .before .loop .copies) (c .before .before .before .before .before .before .before .before .before .before .before .before .before .before .before .before .before .before .before .before .before .before .before .before .before .before .before .before .before .before .before .before .before .before .before .loop .inv .1 .1 .0)) .note-is) ∙ (c .before .before .before .before .before .before .before .before .before .before .before .before .before .before .before .before .before .before .before .before .before .before .before .before .before .before .before .before .before .before .before .before .before .before .before .loop .inv .1 .1 .1 .1 .0)) (ap (λ (n : Note). lowestDue (n .aside .lines)) ((c .before .before .before .before .before .before .before .note .ensures (c .before .before .before .before .before .before .before .before .before .before .before .before .before .before .before .before .before .before .before .before .before .before .before .before .before .before .before .before .before .before .before .before .before .before .before .loop .copies) (c .before .before .before .before .before .before .before .before .before .before .before .before .before .before .before .before .before .before .before .before .before .before .before .before .before .before .before .before .before .before .before .before .before .before .before .loop .inv .1 .1 .0)) .note-is) ∙ (c .before .before .before .before .before .before .before .before .before .before .before .before .before .before .before .before .before .before .before .before .before .before .before .before .before .before .before .before .before .before .before .before .before .before .before .loop .inv .1 .1 .1 .1 .1))), (c .before .before .before .before .before .before .before .before .before .before .before .before .before .before .before .before .before .before .before .before .before .before .before .before .before .before .before .before .before .before .before .before .before .before .before .loop .inv .1 .0, ((c .before .before .before .before .before .before .before .note .ensures (c .before .before .before .before .before .before .before .before .before .before .before .before .before .before .before .before .before .before .before .before .before .before .before .before .before .before .before .before .before .before .before .before .before .before .before .loop .copies) (c .before .before .before .before .before .before .before .before .before .before .before .before .before .before .before .before .before .before .before .before .before .before .before .before .before .before .before .before .before .before .before .before .before .before .before .loop .inv .1 .1 .0)) .laid, (ap (λ (n : Note). n .lost % 2 ^ 32) ((c .before .before .before .before .before .before .before .note .ensures (c .before .before .before .before .before .before .before .before .before .before .before .before .before .before .before .before .before .before .before .before .before .before .before .before .before .before .before .before .before .before .before .before .before .before .before .loop .copies) (c .before .before .before .before .before .before .before .before .before .before .before .before .before .before .before .before .before .before .before .before .before .before .before .before .before .before .before .before .before .before .before .before .before .before .before .loop .inv .1 .1 .0)) .note-is) ∙ (c .before .before .before .before .before .before .before .before .before .before .before .before .before .before .before .before .before .before .before .before .before .before .before .before .before .before .before .before .before .before .before .before .before .before .before .loop .inv .1 .1 .1 .0), ((ap (λ (n : Note). n .heeds) ((c .before .before .before .before .before .before .before .note .ensures (c .before .before .before .before .before .before .before .before .before .before .before .before .before .before .before .before .before .before .before .before .before .before .before .before .before .before .before .before .before .before .before .before .before .before .before .loop .copies) (c .before .before .before .before .before .before .before .before .before .before .before .before .before .before .before .before .before .before .before .before .before .before .before .before .before .before .before .before .before .before .before .before .before .before .before .loop .inv .1 .1 .0)) .note-is) ∙ (c .before .before .before .before .before .before .before .before .before .before .before .before .before .before .before .before .before .before .before .before .before .before .before .before .before .before .before .before .before .before .before .before .before .before .before .loop .inv .1 .1 .1 .1 .0)), (ap (λ (n : Note). lowestDue (n .aside .lines)) ((c .before .before .before .before .before .before .before .note .ensures (c .before .before .before .before .before .before .before .before .before .before .before .before .before .before .before .before .before .before .before .before .before .before .before .before .before .before .before .before .before .before .before .before .before .before .before .loop .copies) (c .before .before .before .before .before .before .before .before .before .before .before .before .before .before .before .before .before .before .before .before .before .before .before .before .before .before .before .before .before .before .before .before .before .before .before .loop .inv .1 .1 .0)) .note-is) ∙ (c .before .before .before .before .before .before .before .before .before .before .before .before .before .before .before .before .before .before .before .before .before .before .before .before .before .before .before .before .before .before .before .before .before .before .before .loop .inv .1 .1 .1 .1 .1)))))))
 
 reach-requires : tie.Need-reach-requires Inv-loop μ-loop
 reach-requires c κs = (omega arith, ((c .before .before .before .before .before .before .before .before .before .before .before .before .before .loop .inv .0) .p-within, c .before .before .before .before .before .before .before .before .before .before .before .before .before .before .before .pre .bounded .shared-within))
@@ -1142,7 +1142,7 @@ loop-less-40 : tie.Need-loop-less-40 Inv-loop μ-loop
 loop-less-40 c = omega (arith, c .before .before .before .counted26 .ensures .1, c .parted4 .ensures .1)
 
 loop-again-40 : tie.Need-loop-again-40 Inv-loop μ-loop
-loop-again-40 c = (goes-in (found (c .before .before .before .before .before .before .before .before .before .before .before .before .before .before .before .before .before .before .before .before .before)) (rti-acts (found (c .before .before .before .before .before .before .before .before .before .before .before .before .before .before .before .before .before .before .before .before .before)) (c .before .before .before .before .before .before .before .before .before .before .before .before .before .before .before .before .before .before .before .match3 .keys12) (c .before .before .before .before .before .before .before .before .before .before .before .e-after-drop .ensures ∙ ap (eAfterDropOf (c .before .before .before .before .before .before .before .before .before .before .before .before .before .before .before .before .before .before .before .before .before .before .before .before .before .before .before .before .before .before .before .loop .regs .s - 1) (c .before .before .before .before .before .before .before .before .before .before .before .before .before .before .before .before .before .before .before .before .before .before .before .before .before .before .before .before .before .before .before .loop .regs .e)) (c .before .before .before .before .before .before .before .before .before .before .before .before .copy-of-s3 .ensures (c .before .before .before .before .before .before .before .before .before .before .before .before .before .before .before .before .before .before .before .before .before .before .before .before .before .before .before .before .before .before .before .loop .rows))) (c .before .before .before .before .before .before .before .before .before .copy-of-r3 .ensures (c .before .before .before .before .before .before .before .before .before .before .before .before .before .before .before .before .before .before .before .before .before .before .before .before .before .before .before .before .before .before .before .loop .rows)) (c .before .before .before .before .before .before .before .return-address .ensures (c .before .before .before .before .before .before .before .before .before .before .before .before .before .before .before .before .before .before .before .before .before .before .before .before .before .before .before .before .before .before .before .loop .copies))) (told saysChecked (c .before .before .before .before .before .before .before .before .before .before .before .before .before .before .before .before .can-return .ensures ∙ ap (λ b. returnable b (c .before .before .before .before .before .before .before .before .before .before .before .before .before .before .before .before .before .before .before .before .before .before .before .before .before .before .before .before .before .before .before .loop .regs .s)) (c .before .before .before .before .before .before .before .before .before .before .before .before .before .before .before .before .before .block .ensures)) (c .before .before .before .before .before .before .before .before .before .before .before .before .before .before .enum-told20 .given .1)) (held-there (c .before .before .before .before .before .release .ensures (c .before .before .before .before .before .before .before .before .before .before .before .before .before .before .before .before .before .before .before .before .before .before .before .before .before .before .before .before .before .before .before .loop .copies) (c .before .before .before .before .before .before .before .before .before .before .before .before .before .before .before .before .before .before .before .before .before .before .before .before .before .before .before .before .before .before .before .loop .inv .1 .1 .0))) refl (c .before .before .before .before .price25 .ensures .0) (c .before .before .before .counted26 .ensures .0) (ap (λ (n : Note). n .heeds) ((c .before .before .before .before .before .release .ensures (c .before .before .before .before .before .before .before .before .before .before .before .before .before .before .before .before .before .before .before .before .before .before .before .before .before .before .before .before .before .before .before .loop .copies) (c .before .before .before .before .before .before .before .before .before .before .before .before .before .before .before .before .before .before .before .before .before .before .before .before .before .before .before .before .before .before .before .loop .inv .1 .1 .0)) .note-is) ∙ (c .before .before .before .before .before .before .before .before .before .before .before .before .before .before .before .before .before .before .before .before .before .before .before .before .before .before .before .before .before .before .before .loop .inv .1 .1 .1 .1 .0)) (c .before .held4 .ensures) (c .parted4 .ensures .0) ((unheeded-now (noteIn (c .before .before .before .before .before .release .last .0) .aside .lines) (noteIn (c .before .before .before .before .before .before .before .before .before .before .before .before .before .before .before .before .before .before .before .before .before .before .before .before .before .before .before .before .before .before .before .before .before .args .rows .now) .aside .lines) (c .before .before .before .before .before .before .before .before .before .before .before .before .before .before .before .before .before .before .before .before .before .before .before .before .before .before .before .before .before .before .before .before .before .pre .unheeded)) (ap (λ (n : Note). n .heeds) ((c .before .before .before .before .before .release .ensures (c .before .before .before .before .before .before .before .before .before .before .before .before .before .before .before .before .before .before .before .before .before .before .before .before .before .before .before .before .before .before .before .loop .copies) (c .before .before .before .before .before .before .before .before .before .before .before .before .before .before .before .before .before .before .before .before .before .before .before .before .before .before .before .before .before .before .before .loop .inv .1 .1 .0)) .note-is) ∙ (c .before .before .before .before .before .before .before .before .before .before .before .before .before .before .before .before .before .before .before .before .before .before .before .before .before .before .before .before .before .before .before .loop .inv .1 .1 .1 .1 .0)) (ap (λ (n : Note). lowestDue (n .aside .lines)) ((c .before .before .before .before .before .release .ensures (c .before .before .before .before .before .before .before .before .before .before .before .before .before .before .before .before .before .before .before .before .before .before .before .before .before .before .before .before .before .before .before .loop .copies) (c .before .before .before .before .before .before .before .before .before .before .before .before .before .before .before .before .before .before .before .before .before .before .before .before .before .before .before .before .before .before .before .loop .inv .1 .1 .0)) .note-is) ∙ (release-due (noteIn (c .before .before .before .before .before .before .before .before .before .before .before .before .before .before .before .before .before .before .before .before .before .before .before .before .before .before .before .before .before .before .before .loop .rows) .aside .lines) ∙ (c .before .before .before .before .before .before .before .before .before .before .before .before .before .before .before .before .before .before .before .before .before .before .before .before .before .before .before .before .before .before .before .loop .inv .1 .1 .1 .1 .1)))), (c .before .before .before .before .before .before .before .before .before .before .before .before .before .before .before .before .before .before .before .before .before .before .before .before .before .before .before .before .before .before .before .loop .inv .1 .0, ((c .before .before .before .before .before .release .ensures (c .before .before .before .before .before .before .before .before .before .before .before .before .before .before .before .before .before .before .before .before .before .before .before .before .before .before .before .before .before .before .before .loop .copies) (c .before .before .before .before .before .before .before .before .before .before .before .before .before .before .before .before .before .before .before .before .before .before .before .before .before .before .before .before .before .before .before .loop .inv .1 .1 .0)) .laid, (ap (λ (n : Note). n .lost % 2 ^ 32) ((c .before .before .before .before .before .release .ensures (c .before .before .before .before .before .before .before .before .before .before .before .before .before .before .before .before .before .before .before .before .before .before .before .before .before .before .before .before .before .before .before .loop .copies) (c .before .before .before .before .before .before .before .before .before .before .before .before .before .before .before .before .before .before .before .before .before .before .before .before .before .before .before .before .before .before .before .loop .inv .1 .1 .0)) .note-is) ∙ (c .before .before .before .before .before .before .before .before .before .before .before .before .before .before .before .before .before .before .before .before .before .before .before .before .before .before .before .before .before .before .before .loop .inv .1 .1 .1 .0), ((ap (λ (n : Note). n .heeds) ((c .before .before .before .before .before .release .ensures (c .before .before .before .before .before .before .before .before .before .before .before .before .before .before .before .before .before .before .before .before .before .before .before .before .before .before .before .before .before .before .before .loop .copies) (c .before .before .before .before .before .before .before .before .before .before .before .before .before .before .before .before .before .before .before .before .before .before .before .before .before .before .before .before .before .before .before .loop .inv .1 .1 .0)) .note-is) ∙ (c .before .before .before .before .before .before .before .before .before .before .before .before .before .before .before .before .before .before .before .before .before .before .before .before .before .before .before .before .before .before .before .loop .inv .1 .1 .1 .1 .0)), (ap (λ (n : Note). lowestDue (n .aside .lines)) ((c .before .before .before .before .before .release .ensures (c .before .before .before .before .before .before .before .before .before .before .before .before .before .before .before .before .before .before .before .before .before .before .before .before .before .before .before .before .before .before .before .loop .copies) (c .before .before .before .before .before .before .before .before .before .before .before .before .before .before .before .before .before .before .before .before .before .before .before .before .before .before .before .before .before .before .before .loop .inv .1 .1 .0)) .note-is) ∙ (release-due (noteIn (c .before .before .before .before .before .before .before .before .before .before .before .before .before .before .before .before .before .before .before .before .before .before .before .before .before .before .before .before .before .before .before .loop .rows) .aside .lines) ∙ (c .before .before .before .before .before .before .before .before .before .before .before .before .before .before .before .before .before .before .before .before .before .before .before .before .before .before .before .before .before .before .before .loop .inv .1 .1 .1 .1 .1))))))))
+loop-again-40 c = (goes-in (found (c .before .before .before .before .before .before .before .before .before .before .before .before .before .before .before .before .before .before .before .before .before)) (rti-acts (found (c .before .before .before .before .before .before .before .before .before .before .before .before .before .before .before .before .before .before .before .before .before)) (c .before .before .before .before .before .before .before .before .before .before .before .before .before .before .before .before .before .before .before .match3 .keys12) (c .before .before .before .before .before .before .before .before .before .before .before .e-after-drop .ensures ∙ ap (eAfterDropOf (c .before .before .before .before .before .before .before .before .before .before .before .before .before .before .before .before .before .before .before .before .before .before .before .before .before .before .before .before .before .before .before .loop .regs .s - 1) (c .before .before .before .before .before .before .before .before .before .before .before .before .before .before .before .before .before .before .before .before .before .before .before .before .before .before .before .before .before .before .before .loop .regs .e)) (c .before .before .before .before .before .before .before .before .before .before .before .before .copy-of-s3 .ensures (c .before .before .before .before .before .before .before .before .before .before .before .before .before .before .before .before .before .before .before .before .before .before .before .before .before .before .before .before .before .before .before .loop .rows))) (c .before .before .before .before .before .before .before .before .before .copy-of-r3 .ensures (c .before .before .before .before .before .before .before .before .before .before .before .before .before .before .before .before .before .before .before .before .before .before .before .before .before .before .before .before .before .before .before .loop .rows)) (c .before .before .before .before .before .before .before .return-address .ensures (c .before .before .before .before .before .before .before .before .before .before .before .before .before .before .before .before .before .before .before .before .before .before .before .before .before .before .before .before .before .before .before .loop .copies))) (told saysChecked (c .before .before .before .before .before .before .before .before .before .before .before .before .before .before .before .before .can-return .ensures ∙ ap (λ b. returnable b (c .before .before .before .before .before .before .before .before .before .before .before .before .before .before .before .before .before .before .before .before .before .before .before .before .before .before .before .before .before .before .before .loop .regs .s)) (c .before .before .before .before .before .before .before .before .before .before .before .before .before .before .before .before .before .block .ensures)) (c .before .before .before .before .before .before .before .before .before .before .before .before .before .before .enum-told20 .given .1)) (held-there (c .before .before .before .before .before .release .ensures (c .before .before .before .before .before .before .before .before .before .before .before .before .before .before .before .before .before .before .before .before .before .before .before .before .before .before .before .before .before .before .before .loop .copies) (c .before .before .before .before .before .before .before .before .before .before .before .before .before .before .before .before .before .before .before .before .before .before .before .before .before .before .before .before .before .before .before .loop .inv .1 .1 .0))) refl (c .before .before .before .before .price25 .ensures .0) (c .before .before .before .counted26 .ensures .0) (ap (λ (n : Note). n .heeds) ((c .before .before .before .before .before .release .ensures (c .before .before .before .before .before .before .before .before .before .before .before .before .before .before .before .before .before .before .before .before .before .before .before .before .before .before .before .before .before .before .before .loop .copies) (c .before .before .before .before .before .before .before .before .before .before .before .before .before .before .before .before .before .before .before .before .before .before .before .before .before .before .before .before .before .before .before .loop .inv .1 .1 .0)) .note-is) ∙ (c .before .before .before .before .before .before .before .before .before .before .before .before .before .before .before .before .before .before .before .before .before .before .before .before .before .before .before .before .before .before .before .loop .inv .1 .1 .1 .1 .0)) (c .before .before .before .before .before .before .before .before .before .before .before .before .before .before .before .before .before .before .before .before .before .before .before .before .before .before .before .before .before .before .before .before .before .pre .unasked) (c .before .held4 .ensures) (c .parted4 .ensures .0) ((unheeded-now (noteIn (c .before .before .before .before .before .release .last .0) .aside .lines) (noteIn (c .before .before .before .before .before .before .before .before .before .before .before .before .before .before .before .before .before .before .before .before .before .before .before .before .before .before .before .before .before .before .before .before .before .args .rows .now) .aside .lines) (c .before .before .before .before .before .before .before .before .before .before .before .before .before .before .before .before .before .before .before .before .before .before .before .before .before .before .before .before .before .before .before .before .before .pre .unheeded)) (ap (λ (n : Note). n .heeds) ((c .before .before .before .before .before .release .ensures (c .before .before .before .before .before .before .before .before .before .before .before .before .before .before .before .before .before .before .before .before .before .before .before .before .before .before .before .before .before .before .before .loop .copies) (c .before .before .before .before .before .before .before .before .before .before .before .before .before .before .before .before .before .before .before .before .before .before .before .before .before .before .before .before .before .before .before .loop .inv .1 .1 .0)) .note-is) ∙ (c .before .before .before .before .before .before .before .before .before .before .before .before .before .before .before .before .before .before .before .before .before .before .before .before .before .before .before .before .before .before .before .loop .inv .1 .1 .1 .1 .0)) (ap (λ (n : Note). lowestDue (n .aside .lines)) ((c .before .before .before .before .before .release .ensures (c .before .before .before .before .before .before .before .before .before .before .before .before .before .before .before .before .before .before .before .before .before .before .before .before .before .before .before .before .before .before .before .loop .copies) (c .before .before .before .before .before .before .before .before .before .before .before .before .before .before .before .before .before .before .before .before .before .before .before .before .before .before .before .before .before .before .before .loop .inv .1 .1 .0)) .note-is) ∙ (release-due (noteIn (c .before .before .before .before .before .before .before .before .before .before .before .before .before .before .before .before .before .before .before .before .before .before .before .before .before .before .before .before .before .before .before .loop .rows) .aside .lines) ∙ (c .before .before .before .before .before .before .before .before .before .before .before .before .before .before .before .before .before .before .before .before .before .before .before .before .before .before .before .before .before .before .before .loop .inv .1 .1 .1 .1 .1)))), (c .before .before .before .before .before .before .before .before .before .before .before .before .before .before .before .before .before .before .before .before .before .before .before .before .before .before .before .before .before .before .before .loop .inv .1 .0, ((c .before .before .before .before .before .release .ensures (c .before .before .before .before .before .before .before .before .before .before .before .before .before .before .before .before .before .before .before .before .before .before .before .before .before .before .before .before .before .before .before .loop .copies) (c .before .before .before .before .before .before .before .before .before .before .before .before .before .before .before .before .before .before .before .before .before .before .before .before .before .before .before .before .before .before .before .loop .inv .1 .1 .0)) .laid, (ap (λ (n : Note). n .lost % 2 ^ 32) ((c .before .before .before .before .before .release .ensures (c .before .before .before .before .before .before .before .before .before .before .before .before .before .before .before .before .before .before .before .before .before .before .before .before .before .before .before .before .before .before .before .loop .copies) (c .before .before .before .before .before .before .before .before .before .before .before .before .before .before .before .before .before .before .before .before .before .before .before .before .before .before .before .before .before .before .before .loop .inv .1 .1 .0)) .note-is) ∙ (c .before .before .before .before .before .before .before .before .before .before .before .before .before .before .before .before .before .before .before .before .before .before .before .before .before .before .before .before .before .before .before .loop .inv .1 .1 .1 .0), ((ap (λ (n : Note). n .heeds) ((c .before .before .before .before .before .release .ensures (c .before .before .before .before .before .before .before .before .before .before .before .before .before .before .before .before .before .before .before .before .before .before .before .before .before .before .before .before .before .before .before .loop .copies) (c .before .before .before .before .before .before .before .before .before .before .before .before .before .before .before .before .before .before .before .before .before .before .before .before .before .before .before .before .before .before .before .loop .inv .1 .1 .0)) .note-is) ∙ (c .before .before .before .before .before .before .before .before .before .before .before .before .before .before .before .before .before .before .before .before .before .before .before .before .before .before .before .before .before .before .before .loop .inv .1 .1 .1 .1 .0)), (ap (λ (n : Note). lowestDue (n .aside .lines)) ((c .before .before .before .before .before .release .ensures (c .before .before .before .before .before .before .before .before .before .before .before .before .before .before .before .before .before .before .before .before .before .before .before .before .before .before .before .before .before .before .before .loop .copies) (c .before .before .before .before .before .before .before .before .before .before .before .before .before .before .before .before .before .before .before .before .before .before .before .before .before .before .before .before .before .before .before .loop .inv .1 .1 .0)) .note-is) ∙ (release-due (noteIn (c .before .before .before .before .before .before .before .before .before .before .before .before .before .before .before .before .before .before .before .before .before .before .before .before .before .before .before .before .before .before .before .loop .rows) .aside .lines) ∙ (c .before .before .before .before .before .before .before .before .before .before .before .before .before .before .before .before .before .before .before .before .before .before .before .before .before .before .before .before .before .before .before .loop .inv .1 .1 .1 .1 .1))))))))
 
 can-exit-requires : tie.Need-can-exit-requires Inv-loop μ-loop
 can-exit-requires c κs = search needs
@@ -1196,7 +1196,7 @@ loop-less-42 : tie.Need-loop-less-42 Inv-loop μ-loop
 loop-less-42 c = omega (arith, c .before .before .before .counted27 .ensures .1, c .parted5 .ensures .1)
 
 loop-again-42 : tie.Need-loop-again-42 Inv-loop μ-loop
-loop-again-42 c = (goes-in (found (c .before .before .before .before .before .before .before .before .before .before .before .before .before .before .before .before .before)) (exit-acts (found (c .before .before .before .before .before .before .before .before .before .before .before .before .before .before .before .before .before)) (c .before .before .before .before .before .before .before .before .before .before .before .before .before .before .before .match3 .keys13) (c .before .before .before .before .before .before .before .before .before .e-after-drop2 .ensures ∙ ap (eAfterDropOf (c .before .before .before .before .before .before .before .before .before .before .before .before .before .before .before .before .before .before .before .before .before .before .before .before .before .before .before .loop .regs .s - 1) (c .before .before .before .before .before .before .before .before .before .before .before .before .before .before .before .before .before .before .before .before .before .before .before .before .before .before .before .loop .regs .e)) (c .before .before .before .before .before .before .before .before .before .before .copy-of-s4 .ensures (c .before .before .before .before .before .before .before .before .before .before .before .before .before .before .before .before .before .before .before .before .before .before .before .before .before .before .before .loop .rows))) (c .before .before .before .before .before .before .before .copy-of-r4 .ensures (c .before .before .before .before .before .before .before .before .before .before .before .before .before .before .before .before .before .before .before .before .before .before .before .before .before .before .before .loop .rows)) (c .before .before .before .before .before .return-address2 .ensures (c .before .before .before .before .before .before .before .before .before .before .before .before .before .before .before .before .before .before .before .before .before .before .before .before .before .before .before .loop .copies))) (told saysExit (c .before .before .before .before .before .before .before .before .before .before .before .before .before .before .can-exit .ensures) (c .before .before .before .before .before .before .before .before .before .before .before .before .enum-told22 .given .1)) refl refl (c .before .before .before .before .price26 .ensures .0) (c .before .before .before .counted27 .ensures .0) (c .before .before .before .before .before .before .before .before .before .before .before .before .before .before .before .before .before .before .before .before .before .before .before .before .before .before .before .loop .inv .1 .1 .1 .1 .0) (c .before .held5 .ensures) (c .parted5 .ensures .0) ((unheeded-now (noteIn (c .before .before .before .before .before .before .before .before .before .before .before .before .before .before .before .before .before .before .before .before .before .before .before .before .before .before .before .loop .rows) .aside .lines) (noteIn (c .before .before .before .before .before .before .before .before .before .before .before .before .before .before .before .before .before .before .before .before .before .before .before .before .before .before .before .before .before .args .rows .now) .aside .lines) (c .before .before .before .before .before .before .before .before .before .before .before .before .before .before .before .before .before .before .before .before .before .before .before .before .before .before .before .before .before .pre .unheeded)) (c .before .before .before .before .before .before .before .before .before .before .before .before .before .before .before .before .before .before .before .before .before .before .before .before .before .before .before .loop .inv .1 .1 .1 .1 .0) (c .before .before .before .before .before .before .before .before .before .before .before .before .before .before .before .before .before .before .before .before .before .before .before .before .before .before .before .loop .inv .1 .1 .1 .1 .1)), (c .before .before .before .before .before .before .before .before .before .before .before .before .before .before .before .before .before .before .before .before .before .before .before .before .before .before .before .loop .inv .1))
+loop-again-42 c = (goes-in (found (c .before .before .before .before .before .before .before .before .before .before .before .before .before .before .before .before .before)) (exit-acts (found (c .before .before .before .before .before .before .before .before .before .before .before .before .before .before .before .before .before)) (c .before .before .before .before .before .before .before .before .before .before .before .before .before .before .before .match3 .keys13) (c .before .before .before .before .before .before .before .before .before .e-after-drop2 .ensures ∙ ap (eAfterDropOf (c .before .before .before .before .before .before .before .before .before .before .before .before .before .before .before .before .before .before .before .before .before .before .before .before .before .before .before .loop .regs .s - 1) (c .before .before .before .before .before .before .before .before .before .before .before .before .before .before .before .before .before .before .before .before .before .before .before .before .before .before .before .loop .regs .e)) (c .before .before .before .before .before .before .before .before .before .before .copy-of-s4 .ensures (c .before .before .before .before .before .before .before .before .before .before .before .before .before .before .before .before .before .before .before .before .before .before .before .before .before .before .before .loop .rows))) (c .before .before .before .before .before .before .before .copy-of-r4 .ensures (c .before .before .before .before .before .before .before .before .before .before .before .before .before .before .before .before .before .before .before .before .before .before .before .before .before .before .before .loop .rows)) (c .before .before .before .before .before .return-address2 .ensures (c .before .before .before .before .before .before .before .before .before .before .before .before .before .before .before .before .before .before .before .before .before .before .before .before .before .before .before .loop .copies))) (told saysExit (c .before .before .before .before .before .before .before .before .before .before .before .before .before .before .can-exit .ensures) (c .before .before .before .before .before .before .before .before .before .before .before .before .enum-told22 .given .1)) refl refl (c .before .before .before .before .price26 .ensures .0) (c .before .before .before .counted27 .ensures .0) (c .before .before .before .before .before .before .before .before .before .before .before .before .before .before .before .before .before .before .before .before .before .before .before .before .before .before .before .loop .inv .1 .1 .1 .1 .0) (c .before .before .before .before .before .before .before .before .before .before .before .before .before .before .before .before .before .before .before .before .before .before .before .before .before .before .before .before .before .pre .unasked) (c .before .held5 .ensures) (c .parted5 .ensures .0) ((unheeded-now (noteIn (c .before .before .before .before .before .before .before .before .before .before .before .before .before .before .before .before .before .before .before .before .before .before .before .before .before .before .before .loop .rows) .aside .lines) (noteIn (c .before .before .before .before .before .before .before .before .before .before .before .before .before .before .before .before .before .before .before .before .before .before .before .before .before .before .before .before .before .args .rows .now) .aside .lines) (c .before .before .before .before .before .before .before .before .before .before .before .before .before .before .before .before .before .before .before .before .before .before .before .before .before .before .before .before .before .pre .unheeded)) (c .before .before .before .before .before .before .before .before .before .before .before .before .before .before .before .before .before .before .before .before .before .before .before .before .before .before .before .loop .inv .1 .1 .1 .1 .0) (c .before .before .before .before .before .before .before .before .before .before .before .before .before .before .before .before .before .before .before .before .before .before .before .before .before .before .before .loop .inv .1 .1 .1 .1 .1)), (c .before .before .before .before .before .before .before .before .before .before .before .before .before .before .before .before .before .before .before .before .before .before .before .before .before .before .before .loop .inv .1))
 
 price-requires-27 : tie.Need-price-requires-27 Inv-loop μ-loop
 price-requires-27 c κs = c .before .before .before .before .before .before .before .before .before .before .before .before .loop .inv .1 .0
