@@ -75,8 +75,8 @@ pub(crate) fn any(mem: &mut [u8], machine: Machine, budget: u32, sum: &mut u64) 
     requires { ⌜ (acceptable (now mem) machine budget ≡ true) × (now sum ≤ mostSum) ⌝ }
     ensures { λ ran. ⌜ (afterOf (now (mem .exit)) ran ≡ runFrom alone byItself budget (now (mem .entry)) machine 0 0) × (now (sum .exit) ≡ sumAfter (now (sum .entry)) (now (mem .entry)) (now (mem .exit))) ⌝ }
 {
-    let costs = CYCLES;
     let links = machine.links;
+    let costs = CYCLES;
     let mut cells = machine.cells;
     let mut returns = links.returns;
     let mut rows = [[0u32; linked::ROW]; linked::ROWS];

@@ -44,8 +44,8 @@ pub(crate) fn let_in(
     let Due::Line(n) = due else {
         return at;
     };
-    returns[r] = at.counter;
     linked::called(rows, copies, r, s, at.counter);
+    returns[r] = at.counter;
     linked::set_lines(rows, requests::serving(lines, n));
     let mut to = at;
     to.r = r + 1;

@@ -1,4 +1,4 @@
--- Made by .ci/named from let_in.rules: 7b639b0f99afdf87 69edaa5a856e4e03
+-- Made by .ci/named from let_in.rules: 7b639b0f99afdf87 27b3871a0f770400
 -- What a call does, with the counter as return address.
 use mathlib.Core.Path.{_≡_, refl, ap, _∙_}
 use native.Mathlib.Omega.{arith}
@@ -23,14 +23,14 @@ enum-told c = search needs
 returns : tie.Need-returns
 returns c = nobody-in (c .before .before .before .before .before .args .returns .now) (c .before .before .before .before .before .args .rows .now) (c .before .before .before .before .before .args .copies .now) (c .before .before .before .before .before .args .at) (c .before .before .before .lines .ensures) (c .before .before .entering .ensures) (ap saysDue (c .enum-told .given .1)) (c .before .before .before .before .before .pre)
 
-mul-returns : tie.Need-mul-returns
-mul-returns c = omega (arith, (finds (c .before .before .before .before .before .before .args .returns .now) (c .before .before .before .before .before .before .args .rows .now) (c .before .before .before .before .before .before .args .copies .now) (c .before .before .before .before .before .before .args .at) (c .before .before .before .before .lines .ensures) (c .before .before .before .entering .ensures) (ap saysDue (c .before .due .given .1))) .r-room)
-
-element-write-returns : tie.Need-element-write-returns
-element-write-returns c = omega (arith, (finds (c .before .before .before .before .before .before .args .returns .now) (c .before .before .before .before .before .before .args .rows .now) (c .before .before .before .before .before .before .args .copies .now) (c .before .before .before .before .before .before .args .at) (c .before .before .before .before .lines .ensures) (c .before .before .before .entering .ensures) (ap saysDue (c .before .due .given .1))) .r-room)
-
 called-requires : tie.Need-called-requires
 called-requires c κs = (finds (c .before .before .before .before .before .before .before .before .args .returns .now) (c .before .before .before .before .before .before .before .before .args .rows .now) (c .before .before .before .before .before .before .before .before .args .copies .now) (c .before .before .before .before .before .before .before .before .args .at) (c .before .before .before .before .before .before .lines .ensures) (c .before .before .before .before .before .entering .ensures) (ap saysDue (c .before .before .before .due .given .1))) .s-room
+
+mul-returns : tie.Need-mul-returns
+mul-returns c = omega (arith, (finds (c .before .before .before .before .before .before .before .before .before .args .returns .now) (c .before .before .before .before .before .before .before .before .before .args .rows .now) (c .before .before .before .before .before .before .before .before .before .args .copies .now) (c .before .before .before .before .before .before .before .before .before .args .at) (c .before .before .before .before .before .before .before .lines .ensures) (c .before .before .before .before .before .before .entering .ensures) (ap saysDue (c .before .before .before .before .due .given .1))) .r-room)
+
+element-write-returns : tie.Need-element-write-returns
+element-write-returns c = omega (arith, (finds (c .before .before .before .before .before .before .before .before .before .args .returns .now) (c .before .before .before .before .before .before .before .before .before .args .rows .now) (c .before .before .before .before .before .before .before .before .before .args .copies .now) (c .before .before .before .before .before .before .before .before .before .args .at) (c .before .before .before .before .before .before .before .lines .ensures) (c .before .before .before .before .before .before .entering .ensures) (ap saysDue (c .before .before .before .before .due .given .1))) .r-room)
 
 serving-requires : tie.Need-serving-requires
 serving-requires c κs = search needs
@@ -59,9 +59,9 @@ let-in-spec =
     enum-known-due
     enum-told
     returns
+    called-requires
     mul-returns
     element-write-returns
-    called-requires
     serving-requires
     set-lines-requires
     add-to
