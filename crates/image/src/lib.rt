@@ -70,9 +70,10 @@ pub enum Verdict {
 }
 
 // What the reader returns, with the sum of the memory that it filled: after a refusal the machine is fresh, and budget and sum are 0.
+// The machine stands first: behind the verdict, its cells are copied twice more before a run (docs/SPEED.md).
 pub struct Loaded {
-    pub verdict: Verdict,
     pub machine: Machine,
+    pub verdict: Verdict,
     pub budget: u32,
     pub sum: u64,
 }
@@ -88,8 +89,8 @@ fn refused(number: u32) -> Loaded
 {
     let machine = Machine::fresh();
     Loaded {
-        verdict: Verdict::Refused(number),
         machine,
+        verdict: Verdict::Refused(number),
         budget: 0,
         sum: 0,
     }

@@ -83,8 +83,8 @@ pub(crate) fn image(file: &[u8], spans: Spans, memory: &mut [u8]) -> Loaded
     machine.cells = placed;
     machine.p = stack.count;
     Loaded {
-        verdict: Verdict::Good,
         machine,
+        verdict: Verdict::Good,
         budget,
         sum,
     }
