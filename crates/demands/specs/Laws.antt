@@ -26,6 +26,8 @@ pub mod Flag
 pub mod Double
 -- what a good image fills
 pub mod Filled
+-- a run in which no line may enter
+pub mod Unentered
 -- histories by computation
 pub mod Walks
 -- histories by computation in which the flag stays

@@ -1,12 +1,16 @@
 -- Interrupt lines in a history: request P4.
 use mathlib.Core.Path.{_≡_}
 use mathlib.Core.Bool.{Bool, true, false}
+use mathlib.Core.List.{List}
 use Prim.Native.Nat.{ℕ, zero, suc, _<_, _≤_}
 use lib.Dec.{eqb}
 use Rattle.plain.specs.Choice.{pick}
 use Rattle.machine.specs.Lines.{hasBit, isDue, none, entering}
+use Rattle.machine.specs.Step.{Stepped, refused, done, stepOf}
+use Rattle.machine.specs.Run.{passes}
 use Rattle.machine.specs.declared.Lines.{Lines}
 use Rattle.machine.specs.declared.Machine.{Machine}
+use Rattle.machine.specs.declared.Reach.{Reach}
 use Rattle.demands.specs.History.{World, codeAt, Moment, step, enters, host, others, History, here, then}
 
 -- whether a routine is in progress, and whether line n waits
@@ -71,3 +75,15 @@ pub record LowestDue (l : Lines) (n : ℕ) : Type 0 where
   pub waits : hasBit n (l .waiting) ≡ true
   pub let-in : hasBit n (l .mask) ≡ true
   pub lowest : (k : ℕ) → 1 ≤ k → k < n → isDue l k ≡ false
+
+-- what holds where a step goes on, and the turn with it
+abbrev pub Onward : Bool → (List ℕ → Machine → Type 0) → Stepped → Type 0
+Onward passed Holds (refused number) = Unit {0}
+Onward true Holds (done mem m cost) = Unit {0}
+Onward false Holds (done mem m cost) = Holds mem m
+
+-- by its instructions alone a run comes to none before which a line could enter
+abbrev pub NoneCouldEnter : Reach → Bool → ℕ → List ℕ → Machine → Type 0
+NoneCouldEnter reach inTurns zero mem m = Unit {0}
+NoneCouldEnter reach inTurns (suc left) mem m =
+    (entering m ≡ none) × Onward (passes inTurns mem m) (NoneCouldEnter reach inTurns left) (stepOf reach mem m)

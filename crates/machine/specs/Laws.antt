@@ -36,8 +36,6 @@ pub mod Served
 pub mod Raised
 -- which line enters, and what it leaves
 pub mod Entered
--- a run in which no line may enter
-pub mod Quiet
 -- what a run accepts, part by part
 pub mod Accepted
 -- a step is one action on the linked stacks, and an allowed one

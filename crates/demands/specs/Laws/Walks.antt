@@ -10,10 +10,10 @@ use Rattle.machine.specs.Reach.{alone}
 use Rattle.machine.specs.Step.{Stepped, refused, done, stepOf}
 use Rattle.machine.specs.Lines.{none, lowestDue, letIn}
 use Rattle.machine.specs.Run.{Manner, mannerOf, runFrom, runOf, acceptable}
-use Rattle.machine.specs.Laws.Quiet.{without-lines}
 use Rattle.demands.specs.History.{World, world, worldAfter, codeAt, pointerE, Moment, Resets, step, host, History, here, then, StaysAbove}
 use Rattle.demands.specs.Walk.{reached, ahead, walk}
 use Rattle.demands.specs.Theorems.Two.{starts, spends, goes-on}
+use Rattle.demands.specs.Laws.Unentered.{without-lines}
 
 -- the step at a world, and whether it is carried out
 abbrev pub stepAt : World → Stepped

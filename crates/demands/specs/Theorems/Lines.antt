@@ -23,24 +23,30 @@ use Rattle.machine.specs.Laws.Served.{bit-cleared, bit-kept}
 use Rattle.machine.specs.Laws.Entered as entries
 use Rattle.machine.specs.Laws.Raised as raising
 use Rattle.machine.specs.Laws.Releases.{LinesAfter, same, freed, lines-after, waiting-kept, only-rti}
-use Rattle.machine.specs.Laws.Quiet.{without-lines}
 use Rattle.machine.specs.declared.Lines.{Lines}
 use Rattle.machine.specs.declared.Machine.{Machine}
 use Rattle.machine.specs.declared.Ran.{Ran}
 use Rattle.machine.specs.declared.Reach.{Reach}
 use Rattle.demands.specs.History.{World, codeAt, asked, Moment, step, enters, host, others, History, here, then, Unbroken}
-use Rattle.demands.specs.Lines.{blockOf, waitsAt, NoneEnters, timesEntered, NeverRaised, Returns, NoneReturns, LowestDue}
+use Rattle.demands.specs.Lines.{blockOf, waitsAt, NoneEnters, timesEntered, NeverRaised, Returns, NoneReturns, LowestDue, NoneCouldEnter}
+use Rattle.demands.specs.Laws.Unentered as unentered
 use Rattle.demands.specs.Theorems.Two.{starts, counts}
 
 -- Without a line that waits and is let in, a run is the run without the unit: every step, count, byte and answer, for every budget,
 -- for one machine and in a task's turn.
 pub as-without : (reach : Reach) (inTurns : Bool) (left : ℕ) (mem : List ℕ) (m : Machine) (n c : ℕ) → lowestDue (m .lines) ≡ none →
     runFrom reach (mannerOf inTurns true) left mem m n c ≡ runFrom reach (mannerOf inTurns false) left mem m n c
-as-without reach inTurns left mem m n c quiet = without-lines reach inTurns left mem m n c quiet
+as-without reach inTurns left mem m n c quiet = unentered.without-lines reach inTurns left mem m n c quiet
 
 pub run-as-without : (mem : List ℕ) (m : Machine) (budget : ℕ) → acceptable mem m budget ≡ true → lowestDue (m .lines) ≡ none →
     runOf mem m budget ≡ runFrom alone (mannerOf false false) budget mem m 0 0
 run-as-without mem m budget ok quiet = starts mem m budget ok ∙ as-without alone false budget mem m 0 0 quiet
+
+-- So it is wherever none could enter before any of its instructions: where lines wait that are let in, too, and a routine in progress or
+-- the want of room keeps them out to its end.
+pub as-without-entries : (reach : Reach) (inTurns : Bool) (left : ℕ) (mem : List ℕ) (m : Machine) (n c : ℕ) → NoneCouldEnter reach inTurns left mem m →
+    runFrom reach (mannerOf inTurns true) left mem m n c ≡ runFrom reach (mannerOf inTurns false) left mem m n c
+as-without-entries reach inTurns left mem m n c none-could = unentered.without-entries reach inTurns left mem m n c none-could
 
 -- The line that enters is the lowest that waits and is let in.
 pub lowest-enters : (m : Machine) (n : ℕ) → entering m ≡ line n → LowestDue (m .lines) n
