@@ -22,10 +22,11 @@ use Rattle.machine.specs.Laws.Counted.{counted-on, counted-later, entered-befor
 use Rattle.machine.specs.Laws.Kept.{Formed, let-in-good}
 use Rattle.machine.specs.declared.Machine.{Machine}
 use Rattle.machine.specs.declared.Reach.{Reach}
+use Rattle.machine.specs.declared.Steps.{Steps}
 use Rattle.run.specs.Calm.{linesEnter, mannerIn, runIn, Calm}
 use Rattle.run.specs.Entries.{LetsIn, Attends}
 use Rattle.run.specs.Levels.{framesIn, levelsIn, noteIn, pointersIn, inRows, parkedIn, Laid, Hold, Parks}
-use Rattle.run.specs.Notes.{Note}
+use Rattle.run.specs.Notes.{Note, Aside}
 use Rattle.run.specs.Promises.{Bounded}
 use Rattle.run.specs.Machines.{linksOf}
 use Rattle.run.specs.Registers.{machineIn, begunAt, talliedTo, joinedTo}
@@ -134,11 +135,37 @@ module _ {reach : Reach} {mem₀ : List ℕ} {m₀ : Machine} {budget lost₀ : 
             abbrev cycles : ℕ
             cycles = c + after .cycles .0
 
+            abbrev regs-then : Steps → Steps → ℕ → Bool → Registers
+            regs-then left unspent answer again = talliedTo after left (record { 0 = cycles }) answer unspent again
+
             abbrev over-regs : Registers
-            over-regs = talliedTo after (after .left) (record { 0 = cycles }) (after .answer) (after .unspent) (after .again)
+            over-regs = regs-then (after .left) (after .unspent) (after .answer) (after .again)
 
             abbrev on-regs : Registers
-            on-regs = talliedTo after (after .unspent) (record { 0 = cycles }) 1 (record { 0 = 0 }) false
+            on-regs = regs-then (after .unspent) (record { 0 = 0 }) 1 false
+
+            -- what a stretch leaves, whether it goes on or not
+            serving-then : (left unspent : Steps) (answer : ℕ) (again : Bool) → left .0 ≤ budget → unspent .0 ≤ budget → cycles ≤ 42 * (budget - left .0) →
+                (0 < left .0 → Onward reach mem₀ m₀ budget mem′ m′ (regs-then left unspent answer again)) →
+                (left .0 ≤ 0 → ended answer mem′ m′ (budget - unspent .0) cycles ≡ runIn reach false budget mem₀ m₀ 0 0) →
+                Serving reach mem₀ m₀ budget lost₀ costs mem′ cells′ returns′ rows′ copies′ (regs-then left unspent answer again)
+            serving-then left unspent answer again left-within unspent-within priced going over =
+                record {
+                  bounded = now .bounded;
+                  lined = now .lined;
+                  prices = now .prices;
+                  limit = now .limit;
+                  left-within = left-within;
+                  unspent-within = unspent-within;
+                  priced = priced;
+                  long₀ = now .long₀;
+                  long = ends .leaves .long;
+                  laid = ends .leaves .laid;
+                  loses = lost-now;
+                  unheeded = unheeded-then;
+                  going = going;
+                  over = over;
+                }
 
             -- it is over
             ended-then : after .again ≡ false → Serving reach mem₀ m₀ budget lost₀ costs mem′ cells′ returns′ rows′ copies′ over-regs
@@ -150,30 +177,15 @@ module _ {reach : Reach} {mem₀ : List ℕ} {m₀ : Machine} {budget lost₀ : 
                 let steps : budget - after .unspent .0 ≡ n + (g .left .0 - after .unspent .0) = omega arith in
                 let old = now .priced in
                 let more = l .priced in
-                record {
-                  bounded = now .bounded;
-                  lined = now .lined;
-                  prices = now .prices;
-                  limit = now .limit;
-                  left-within = omega arith;
-                  unspent-within = omega arith;
-                  priced = omega arith;
-                  long₀ = now .long₀;
-                  long = l .long;
-                  laid = l .laid;
-                  loses = lost-now;
-                  unheeded = unheeded-then;
-                  going = λ h. absurd (omega arith);
-                  over = λ h.
-                      ap (λ (k : ℕ). ended (after .answer) mem′ m′ k cycles) steps ∙
-                      (ap (added n c) (ends .same not) ∙ (sym (same-from n c) ∙ sym (now .going less .rest)));
-                }
+                serving-then (after .left) (after .unspent) (after .answer) (after .again) (omega arith) (omega arith) (omega arith) (λ h. absurd (omega arith))
+                (λ h.
+                ap (λ (k : ℕ). ended (after .answer) mem′ m′ k cycles) steps ∙
+                (ap (added n c) (ends .same not) ∙ (sym (same-from n c) ∙ sym (now .going less .rest))))
 
             -- it goes on
             on-then : after .again ≡ true → Serving reach mem₀ m₀ budget lost₀ costs mem′ cells′ returns′ rows′ copies′ on-regs
             unfolding runFrom
             on-then is =
-                let l = ends .leaves in
                 let o = ends .goes is in
                 let fewer = o .less in
                 let left = now .left-within in
@@ -186,28 +198,15 @@ module _ {reach : Reach} {mem₀ : List ℕ} {m₀ : Machine} {budget lost₀ : 
                 (ap (added n c) (o .rest) ∙
                 (sym (counted-later reach (mannerIn reach false) (after .unspent .0) mem′ m′ n c (g .left .0 - after .unspent .0) (after .cycles .0)) ∙
                 ap (λ (k : ℕ). runIn reach false (after .unspent .0) mem′ m′ k cycles) steps))) in
-                record {
-                  bounded = now .bounded;
-                  lined = now .lined;
-                  prices = now .prices;
-                  limit = now .limit;
-                  left-within = omega arith;
-                  unspent-within = omega arith;
-                  priced = omega arith;
-                  long₀ = now .long₀;
-                  long = l .long;
-                  laid = l .laid;
-                  loses = lost-now;
-                  unheeded = unheeded-then;
-                  going = λ h. record { none-spent = refl; unanswered = refl; rest = rest; whole = o .whole; formed = o .formed };
-                  over = λ h.
-                      let none : after .unspent .0 ≡ 0 = omega arith in
-                      let all : budget - 0 ≡ budget - after .unspent .0 = omega arith in
-                      sym
-                      (rest ∙
-                      (ap (λ (k : ℕ). runIn reach false k mem′ m′ (budget - after .unspent .0) cycles) none ∙
-                      ap (λ (k : ℕ). runIn reach false 0 mem′ m′ k cycles) (sym all)));
-                }
+                serving-then (after .unspent) (record { 0 = 0 }) 1 false (omega arith) (omega arith) (omega arith)
+                (λ h. record { none-spent = refl; unanswered = refl; rest = rest; whole = o .whole; formed = o .formed })
+                (λ h.
+                let none : after .unspent .0 ≡ 0 = omega arith in
+                let all : budget - 0 ≡ budget - after .unspent .0 = omega arith in
+                sym
+                (rest ∙
+                (ap (λ (k : ℕ). runIn reach false k mem′ m′ (budget - after .unspent .0) cycles) none ∙
+                ap (λ (k : ℕ). runIn reach false 0 mem′ m′ k cycles) (sym all))))
 
             pub stretched : {g′ : Registers} → g′ ≡ joinedTo g after → Serving reach mem₀ m₀ budget lost₀ costs mem′ cells′ returns′ rows′ copies′ g′
             stretched eg = serving-as eg (go (after .again) refl)
@@ -238,6 +237,26 @@ module _ {reach : Reach} {mem₀ : List ℕ} {m₀ : Machine} {budget lost₀ : 
                 let limit = now .limit in
                 omega arith
 
+-- rows that hold the same levels, last THROW and lines show the same machine
+held-same : (rows : List (List ℕ)) (copies : List ℕ) {rows′ : List (List ℕ)} {copies′ : List ℕ} {note : Note} → Hold rows′ copies′ (framesIn rows copies) (levelsIn rows copies) note → note .aside ≡ noteIn rows .aside →
+    (cells returns : List ℕ) (at : Pointers) → inRows cells returns rows′ copies′ at ≡ inRows cells returns rows copies at
+held-same rows copies {rows′} {copies′} h same cells returns at =
+    ap (λ (f : List Frame). shown f (levelsIn rows′ copies′) (noteIn rows′ .aside)) (h .frames-are) ∙
+    (ap (λ (v : List Level). shown (framesIn rows copies) v (noteIn rows′ .aside)) (h .levels-are) ∙
+    ap (shown (framesIn rows copies) (levelsIn rows copies)) (ap (λ (n : Note). n .aside) (h .note-is) ∙ same))
+  where
+    shown : List Frame → List Level → Aside → Machine
+    shown f v a =
+        record {
+          cells = cells;
+          p = at .p;
+          links = linksOf returns (at .r) f (at .s) v (at .e);
+          counter = at .counter;
+          flag = at .flag;
+          thrown = a .thrown;
+          lines = a .lines;
+        }
+
 -- what is noted of lines alters nothing of the machine
 pub record Attended (cells returns : List ℕ) (rows : List (List ℕ)) (copies : List ℕ) (start : Pointers) (rows′ : List (List ℕ)) : Type 0 where
   pub same : inRows cells returns rows′ copies start ≡ inRows cells returns rows copies start
@@ -249,18 +268,6 @@ module _ (cells returns : List ℕ) {rows : List (List ℕ)} {copies : List ℕ}
   pub attended : Attended cells returns rows copies start rows′
   attended = go b refl
     where
-      seated : List Frame → List Level → Note → Machine
-      seated f v n =
-          record {
-            cells = cells;
-            p = start .p;
-            links = linksOf returns (start .r) f (start .s) v (start .e);
-            counter = start .counter;
-            flag = start .flag;
-            thrown = n .aside .thrown;
-            lines = n .aside .lines;
-          }
-
       go : (some : Bool) → b ≡ some → Attended cells returns rows copies start rows′
       go false e =
           let q = attends .quiet e in
@@ -274,9 +281,7 @@ module _ (cells returns : List ℕ) {rows : List (List ℕ)} {copies : List ℕ}
           let held = attends .heeded e copies laid in
           let noted = held .note-is in
           record {
-            same =
-                ap (λ (f : List Frame). seated f (levelsIn rows′ copies) (noteIn rows′)) (held .frames-are) ∙
-                (ap (λ (v : List Level). seated (framesIn rows copies) v (noteIn rows′)) (held .levels-are) ∙ ap (seated (framesIn rows copies) (levelsIn rows copies)) noted);
+            same = held-same rows copies held refl cells returns start;
             lost-same = ap (λ (n : Note). n .lost) noted;
             still-laid = held .laid;
             unheeded = λ h. let one : noteIn rows′ .heeds ≡ 1 = ap (λ (n : Note). n .heeds) noted in absurd (omega arith);
@@ -315,22 +320,7 @@ serving-first {reach} {mem} {cells} {returns} {rows} {copies} {start} {left} {co
 -- registers that are parked leave the machine as it was
 module _ {rows rows′ : List (List ℕ)} {copies copies′ : List ℕ} {g : Registers} (parks : Parks rows copies g rows′ copies′) where
   pub machine-parked : (cells returns : List ℕ) (at : Pointers) → inRows cells returns rows′ copies′ at ≡ inRows cells returns rows copies at
-  machine-parked cells returns at =
-      let h = parks .held in
-      ap (λ (f : List Frame). seated f (levelsIn rows′ copies′) (noteIn rows′)) (h .frames-are) ∙
-      (ap (λ (v : List Level). seated (framesIn rows copies) v (noteIn rows′)) (h .levels-are) ∙ ap (seated (framesIn rows copies) (levelsIn rows copies)) (h .note-is))
-    where
-      seated : List Frame → List Level → Note → Machine
-      seated f v n =
-          record {
-            cells = cells;
-            p = at .p;
-            links = linksOf returns (at .r) f (at .s) v (at .e);
-            counter = at .counter;
-            flag = at .flag;
-            thrown = n .aside .thrown;
-            lines = n .aside .lines;
-          }
+  machine-parked = held-same rows copies (parks .held) refl
 
   pub serving-parked : {reach : Reach} {mem₀ : List ℕ} {m₀ m₁ : Machine} {budget lost₀ lost₁ : ℕ} {costs mem cells returns : List ℕ} →
       m₁ ≡ m₀ → lost₁ ≡ lost₀ → g .again ≡ false → Serving reach mem₀ m₀ budget lost₀ costs mem cells returns rows copies g →
