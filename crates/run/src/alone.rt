@@ -76,6 +76,7 @@ pub(crate) fn any(mem: &mut [u8], machine: Machine, budget: u32, sum: &mut u64) 
     ensures { λ ran. ⌜ (afterOf (now (mem .exit)) ran ≡ runFrom alone byItself budget (now (mem .entry)) machine 0 0) × (now (sum .exit) ≡ sumAfter (now (sum .entry)) (now (mem .entry)) (now (mem .exit))) ⌝ }
 {
     let links = machine.links;
+    // before the links it costs a step of the stores (docs/SPEED.md)
     let costs = CYCLES;
     let mut cells = machine.cells;
     let mut returns = links.returns;

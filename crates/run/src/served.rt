@@ -44,6 +44,7 @@ pub(crate) fn let_in(
     let Due::Line(n) = due else {
         return at;
     };
+    // the level first: behind the return cell it costs a step of the stores (docs/SPEED.md)
     linked::called(rows, copies, r, s, at.counter);
     returns[r] = at.counter;
     linked::set_lines(rows, requests::serving(lines, n));
