@@ -76,13 +76,13 @@ pub record LowestDue (l : Lines) (n : ℕ) : Type 0 where
   pub let-in : hasBit n (l .mask) ≡ true
   pub lowest : (k : ℕ) → 1 ≤ k → k < n → isDue l k ≡ false
 
--- what holds where a step goes on, and the turn with it
+-- a step ends the run, as refused or by passing the turn; or the run goes on, and this holds of what the step leaves
 abbrev pub Onward : Bool → (List ℕ → Machine → Type 0) → Stepped → Type 0
 Onward passed Holds (refused number) = Unit {0}
 Onward true Holds (done mem m cost) = Unit {0}
 Onward false Holds (done mem m cost) = Holds mem m
 
--- by its instructions alone a run comes to none before which a line could enter
+-- among the instructions that a run without lines carries out there is none before which a line could enter
 abbrev pub NoneCouldEnter : Reach → Bool → ℕ → List ℕ → Machine → Type 0
 NoneCouldEnter reach inTurns zero mem m = Unit {0}
 NoneCouldEnter reach inTurns (suc left) mem m =

@@ -8,21 +8,18 @@ use borrow.Author.Tests.{ne-eqb, eqb-true, eqb-false, le-ltb, ltb-false}
 use lib.Dec.{T, ltb, eqb}
 use Rattle.plain.specs.Choice.{pick, both}
 use Rattle.links.specs.Depths.{returnsDepth, subroutinesDepth}
-use Rattle.machine.specs.Lines.{Line, none, line, lowestDue, entering, letIn, released, afterLine}
+use Rattle.machine.specs.Lines.{Line, none, line, lowestDue, entering, letIn, afterLine}
+use Rattle.machine.specs.Laws.Entered.{none-while-quiet}
 use Rattle.machine.specs.declared.Lines.{Lines}
 use Rattle.machine.specs.declared.Machine.{Machine}
 use Rattle.requests.specs.Requests.{enteringWith}
 use Rattle.run.specs.Calm.{Quiet, Calm, quiet, blocked, no-return-room, no-frame-room, heldIn}
 
 -- nobody's line enters
-unentered : (b : Bool) → pick b none none ≡ none
-unentered true = refl
-unentered false = refl
-
 nobody : (m : Machine) → Calm true (m .lines) (m .links .r) (m .links .s) → entering m ≡ none
 unfolding entering
 nobody m (quiet (inl off)) = absurd (subst T off tt)
-nobody m (quiet (inr e)) = rw (e) (unentered (both (eqb (m .lines .block) 0) (both (ltb (m .links .r) returnsDepth) (ltb (m .links .s) subroutinesDepth))))
+nobody m (quiet (inr e)) = none-while-quiet m e
 nobody m (blocked h) = rw (ne-eqb (m .lines .block) 0 h)
 nobody m (no-return-room h) = rw (le-ltb (m .links .r) returnsDepth h) (neither (eqb (m .lines .block) 0))
   where
@@ -76,11 +73,6 @@ unheeded-now {lined} {heeds} {heeds₀} l l₀ unheeded same due h = go (unheede
     go : Quiet lined l₀ → Quiet lined l
     go (inl off) = inl off
     go (inr e) = inr (due ∙ e)
-
--- a release alters no request and no mask
-pub release-due : (l : Lines) → lowestDue (released l) ≡ lowestDue l
-unfolding lowestDue
-release-due l = refl
 
 -- where nobody enters, none can
 pub none-calm : {l : Lines} {r s : ℕ} → enteringWith l r s ≡ none → Calm true l r s

@@ -3,31 +3,15 @@ use mathlib.Core.Path.{_≡_, refl, ap, _∙_}
 use mathlib.Core.Bool.{Bool, true, false}
 use mathlib.Core.List.{List}
 use Prim.Native.Nat.{ℕ, zero, suc, _+_}
-use Rattle.plain.specs.Choice.{pick, both}
-use lib.Dec.{eqb}
-use Rattle.machine.specs.Lines.{Line, none, lowestDue, hasRoom, entering, afterLine, letIn}
+use Rattle.plain.specs.Choice.{pick}
+use Rattle.machine.specs.Lines.{Line, none, lowestDue, afterLine, letIn}
 use Rattle.machine.specs.Step.{Stepped, refused, done, stepOf}
 use Rattle.machine.specs.Run.{After, ended, mannerOf, passes, runFrom}
-use Rattle.machine.specs.Laws.Releases.{LinesAfter, same, freed, lines-after}
-use Rattle.machine.specs.declared.Lines.{Lines}
+use Rattle.machine.specs.Laws.Entered.{none-while-quiet}
+use Rattle.machine.specs.Laws.Releases.{lines-after, due-kept}
 use Rattle.machine.specs.declared.Machine.{Machine}
 use Rattle.machine.specs.declared.Reach.{Reach}
 use Rattle.demands.specs.Lines.{Onward, NoneCouldEnter}
-
--- an instruction makes no line due
-due-kept : (l : Lines) {l′ : Lines} → LinesAfter l l′ → lowestDue l′ ≡ lowestDue l
-unfolding lowestDue
-due-kept l same = refl
-due-kept l freed = refl
-
--- where none is due, none enters
-none-enters : (m : Machine) → lowestDue (m .lines) ≡ none → entering m ≡ none
-unfolding entering
-none-enters m e = ap (λ (x : Line). pick (both (eqb (m .lines .block) 0) (hasRoom (m .links))) x none) e ∙ go (both (eqb (m .lines .block) 0) (hasRoom (m .links)))
-  where
-    go : (b : Bool) → pick b none none ≡ none
-    go true = refl
-    go false = refl
 
 module _ (reach : Reach) (inTurns : Bool) where
   -- what follows a step, with the unit or without
@@ -70,7 +54,7 @@ module _ (reach : Reach) (inTurns : Bool) where
   none-could : (left : ℕ) → Quiet left
   none-could zero mem m quiet = tt
   none-could (suc left) mem m quiet =
-      (none-enters m quiet, quiet-onward left (none-could left) (passes inTurns mem m) mem m quiet (stepOf reach mem m) refl)
+      (none-while-quiet m quiet, quiet-onward left (none-could left) (passes inTurns mem m) mem m quiet (stepOf reach mem m) refl)
 
   pub without-lines : (left : ℕ) (mem : List ℕ) (m : Machine) (n c : ℕ) → lowestDue (m .lines) ≡ none →
       runFrom reach (mannerOf inTurns true) left mem m n c ≡ runFrom reach (mannerOf inTurns false) left mem m n c

@@ -7,11 +7,11 @@ use native.Mathlib.Omega.{arith}
 use borrow.Author.Tests.{lt-ltb, eqb-true, eqb-false}
 use lib.Dec.{eqb}
 use lib.ListN.{length}
-use Rattle.plain.specs.Choice.{pick}
+use Rattle.plain.specs.Choice.{pick, both}
 use Rattle.plain.specs.Laws.Choice.{both-true}
 use Rattle.links.specs.Depths.{returnsDepth, subroutinesDepth}
 use Rattle.links.specs.Laws.Called.{call-makes}
-use Rattle.machine.specs.Lines.{hasBit, allLines, isDue, Line, none, line, firstDue, lowestDue, entering, enteredBy, afterLine, letIn}
+use Rattle.machine.specs.Lines.{hasBit, allLines, isDue, Line, none, line, firstDue, lowestDue, hasRoom, entering, enteredBy, afterLine, letIn}
 use Rattle.machine.specs.State.{Whole}
 use Rattle.machine.specs.Step.{refused, done, stepOf}
 use Rattle.machine.specs.Run.{After, Manner, ended, passes, runFrom}
@@ -73,6 +73,15 @@ lowest-enters m free r s = rw (free, lt-ltb (m .links .r) returnsDepth r, lt-ltb
 pub let-in-line : (m : Machine) (n : ℕ) → entering m ≡ line n → letIn true m ≡ enteredBy n m
 unfolding letIn
 let-in-line m n e = ap (λ (l : Line). afterLine l m) e
+
+-- where none is due, none enters
+pub none-while-quiet : (m : Machine) → lowestDue (m .lines) ≡ none → entering m ≡ none
+unfolding entering
+none-while-quiet m e = rw (e) (go (both (eqb (m .lines .block) 0) (hasRoom (m .links))))
+  where
+    go : (b : Bool) → pick b none none ≡ none
+    go true = refl
+    go false = refl
 
 -- while a routine is in progress none enters
 pub none-while-blocked : (m : Machine) → m .lines .block ≡ 1 → entering m ≡ none

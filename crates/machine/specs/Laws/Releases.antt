@@ -7,7 +7,7 @@ use Rattle.plain.specs.Choice.{pick}
 use Rattle.numbers.specs.Bytes.{byteAt}
 use Rattle.machine.specs.Codes.{RTI, entryAt}
 use Rattle.machine.specs.Fetch.{instructionAt}
-use Rattle.machine.specs.Lines.{released}
+use Rattle.machine.specs.Lines.{lowestDue, released}
 use Rattle.machine.specs.Step.{done, stepOf, rowAt}
 use Rattle.machine.specs.Laws.Kept.{fair-at}
 use Rattle.machine.specs.Laws.Marks.{marked}
@@ -20,6 +20,12 @@ use Rattle.machine.specs.declared.Reach.{Reach}
 pub data LinesAfter (l : Lines) : Lines → Type 0 where
   same : LinesAfter l l
   freed : LinesAfter l (released l)
+
+-- it makes no line due
+pub due-kept : (l : Lines) {l′ : Lines} → LinesAfter l l′ → lowestDue l′ ≡ lowestDue l
+unfolding lowestDue
+due-kept l same = refl
+due-kept l freed = refl
 
 module _ (reach : Reach) (mem : List ℕ) (m : Machine) (mem′ : List ℕ) (m′ : Machine) (k : ℕ) (e : stepOf reach mem m ≡ done mem′ m′ k) where
   lines-are : m′ .lines ≡ pick (rowAt reach mem m .releases) (released (m .lines)) (m .lines)
