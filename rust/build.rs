@@ -55,7 +55,7 @@ fn main() {
     }
 }
 
-/// Where the toolchain puts a proved library.
+/// Where .ci/built puts a proved library.
 fn proved(name: &str) -> PathBuf {
     PathBuf::from(format!("../target/staticlib/lib{name}.a"))
 }

@@ -1,11 +1,10 @@
-# Sourced by compare, speed and stack: builds the proved libraries, with the sizes of their frames beside them, and the programs here.
+# Sourced by compare, speed and stack: builds the proved libraries, and the programs here.
 # With GLIDECOTTON_STAND_IN=1 the plain C interpreter takes the proved machine's place, to try the harness itself.
 set -eu
 stand_in=
 if [ -n "${GLIDECOTTON_STAND_IN:-}" ]; then
     stand_in=--stand-in
 else
-    . ./kit.sh
-    for crate in glidecotton host lines reader tasks; do library "$crate"; done
+    ../.ci/built libglidecotton.a libhost.a liblines.a libreader.a libtasks.a
 fi
 cargo build --release --offline --quiet

@@ -1,4 +1,6 @@
 // The bench program: an image from standard input, its text to standard output.
+#![tactic(auto)]
+
 use machine::Machine;
 use report::Printed;
 use streams::Input;
@@ -6,9 +8,9 @@ use streams::Input;
 // One byte more than the longest good image, so that a longer file is refused and not cut to a good one.
 const IMAGE: usize = image::LONGEST_FILE + 1;
 
-fn main() {
+fn main(rt: HostRuntime) {
     let mut image = [0u8; IMAGE];
-    let Input::Bytes(read) = streams::read(&mut image) else {
+    let Input::Bytes(read) = streams::read(&rt, &mut image) else {
         return;
     };
     let mut memory = [0u8; Machine::MEMORY];
@@ -17,5 +19,5 @@ fn main() {
     let Printed::Text(count) = glidecotton::bench(&image[..read], &mut memory, &mut text) else {
         return;
     };
-    streams::write(&text, count);
+    streams::write(&rt, &text, count);
 }

@@ -23,7 +23,7 @@ pub record Handled (memory : List ℕ) (budget sum : ℕ) (m : Machine) (handed 
 -- buffer for the counts. Between calls it may write other numbers for mask and waiting requests, and leaves the rest of the bytes
 pub data Calls : List ℕ → List ℕ → Type 0 where
   over : {state : List ℕ} → Calls state state
-  host-call : {state end : List ℕ} {handed : Lent} (memory : List ℕ) (budget sum : ℕ) (result : List ℕ) → Hands state memory budget sum result handed
+  host-call : {state end : List ℕ} (memory : List ℕ) (budget sum : ℕ) (result : List ℕ) {handed : Lent} → Hands state memory budget sum result handed
       → Calls handed.state end → Calls state end
   host-asks : {state asking end : List ℕ} (m : Machine) (mask waiting : ℕ) → Carries state m → Carries asking (asked mask waiting m)
       → Calls asking end → Calls state end

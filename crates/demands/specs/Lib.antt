@@ -32,5 +32,3 @@ pub mod Cases
 pub mod Worked
 -- what the reader of images leaves
 pub mod Images
-pub mod Laws
-pub mod Theorems

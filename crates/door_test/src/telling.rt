@@ -1,31 +1,33 @@
 // What a call came to, on one line.
-use libc::STDOUT_FILENO;
 use machine::{Cycles, Steps};
+use std::io;
 
-pub(crate) fn numbers(name: &[u8], answer: u32, steps: Steps, cycles: Cycles) {
-    io::write_all(STDOUT_FILENO, name);
-    io::write_all(STDOUT_FILENO, b": answer ");
-    io::print_decimal(STDOUT_FILENO, answer as u64);
-    io::write_all(STDOUT_FILENO, b", steps ");
-    io::print_decimal(STDOUT_FILENO, steps.0 as u64);
-    io::write_all(STDOUT_FILENO, b", cycles ");
-    io::print_decimal(STDOUT_FILENO, cycles.0 as u64);
+pub(crate) fn numbers(
+    rt: &impl Print,
+    name: &str,
+    answer: u32,
+    steps: Steps,
+    cycles: Cycles,
+) -> io::Result<()> {
+    print!(rt;
+        "{name}: answer {answer}, steps {}, cycles {}",
+        steps.0, cycles.0
+    )
 }
 
-pub(crate) fn kept(what: &[u8], same: bool) {
-    io::write_all(STDOUT_FILENO, what);
+pub(crate) fn kept(rt: &impl Print, what: &str, same: bool) -> io::Result<()> {
+    rt.print(what)?;
     if same {
-        io::write_all(STDOUT_FILENO, b"unaltered");
+        rt.print("unaltered")
     } else {
-        io::write_all(STDOUT_FILENO, b"altered");
+        rt.print("altered")
     }
 }
 
-pub(crate) fn sum(number: u64) {
-    io::write_all(STDOUT_FILENO, b", sum ");
-    io::print_decimal(STDOUT_FILENO, number);
+pub(crate) fn sum(rt: &impl Print, number: u64) -> io::Result<()> {
+    print!(rt; ", sum {number}")
 }
 
-pub(crate) fn end() {
-    io::write_all(STDOUT_FILENO, b"\n");
+pub(crate) fn end(rt: &impl Print) -> io::Result<()> {
+    rt.println("")
 }

@@ -1,4 +1,6 @@
 // The whole job: an image in, the bench program's text out, for programs and for hosts in other languages.
+#![tactic(auto)]
+
 ghost use Rattle.std.specs.Prelude.{◌≡◌};
 ghost use Rattle.report.specs.Printing.{says_printed};
 ghost use Rattle.glidecotton.specs.Bench.{Benches};
@@ -40,9 +42,8 @@ fn number(printed: Printed) -> u64
     }
 }
 
-// The same for a host: 2, or how many bytes of text were written.
-#[unsafe(no_mangle)]
-pub extern "C" fn glidecotton_bench(image: &[u8], memory: &mut [u8], out: &mut [u8]) -> u64
+// The same for a host: 2, or how many bytes of text were written. glidecotton_c exports it.
+pub fn glidecotton_bench(image: &[u8], memory: &mut [u8], out: &mut [u8]) -> u64
     ensures { Hosts image.now memory.old out.old (record { number = result; memory = memory.new; out = out.new }) }
 {
     number(bench(image, memory, out))

@@ -1,6 +1,11 @@
 // A run for hosts in other languages that hold a whole machine as bytes. It stands apart from the bench job, so that each of the
-// two exported functions has the run compiled into it.
-ghost use Rattle.std.specs.Prelude.{◌≡◌};
+// two exported functions has the run compiled into it; host_c exports it.
+#![tactic(auto)]
+
+ghost use Rattle.std.specs.Prelude.{◌≡◌, length};
+ghost use Rattle.plain.specs.Answer.{gives};
+ghost use Rattle.state.specs.Layout as layout;
+ghost use Rattle.state.specs.Promise.{Takes};
 ghost use Rattle.host.specs.Handed.{Hands};
 ghost use Rattle.host.specs.Laws.Budget.{narrowed_to};
 
@@ -19,17 +24,39 @@ fn narrowed(budget: u64) -> u32
     budget as u32
 }
 
-// Runs a machine that a host holds as bytes, with the sum of its memory, and hands both back, the sum in the result. Both buffers of its own are measured first,
-// so that a call that answers 2 touches nothing.
-#[unsafe(no_mangle)]
-pub extern "C" fn glidecotton_run_state(
+// Runs the machine that the bytes hold. It stands apart from the reading of them, so that what is read and what a run leaves do not stand
+// side by side on the stack (docs/DECISIONS.md).
+fn run_taken(
+    machine: Machine,
     state: &mut [u8],
     memory: &mut [u8],
     budget: u64,
     sum: u64,
     res: &mut [u8],
 ) -> u64
-    ensures* { λ r. ⌜ Hands state.old memory.old budget sum res.old (record { number = r; state = state.new; memory = memory.new; result = res.new }) ⌝ }
+    requires { Takes state.old (gives tt) machine × (length res.old ≡ (layout.result).width) }
+    ensures { let answer = result in Hands state.old memory.old budget sum res.old (record { number = answer; state = state.new; memory = memory.new; result = res.new }) }
+{
+    let mut after = machine;
+    let mut kept = sum;
+    let ran = run::run_in(memory, &mut after, narrowed(budget), &mut kept);
+    let steps = ran.steps;
+    let cycles = ran.cycles;
+    state::give(after, state);
+    state::give_counts(ran.answer, steps, cycles, kept, res);
+    0
+}
+
+// Runs a machine that a host holds as bytes, with the sum of its memory, and hands both back, the sum in the result. Both buffers of its own are measured first,
+// so that a call that answers 2 touches nothing.
+pub fn glidecotton_run_state(
+    state: &mut [u8],
+    memory: &mut [u8],
+    budget: u64,
+    sum: u64,
+    res: &mut [u8],
+) -> u64
+    ensures { let answer = result in Hands state.old memory.old budget sum res.old (record { number = answer; state = state.new; memory = memory.new; result = res.new }) }
 {
     if res.len() != state::RESULT {
         return 2;
@@ -40,12 +67,5 @@ pub extern "C" fn glidecotton_run_state(
         return 2;
     };
     let machine = taken.machine;
-    let mut kept = sum;
-    let ran = run::run(memory, machine, narrowed(budget), &mut kept);
-    let after = ran.machine;
-    let steps = ran.steps;
-    let cycles = ran.cycles;
-    state::give(after, state);
-    state::give_counts(ran.answer, steps, cycles, kept, res);
-    0
+    run_taken(machine, state, memory, budget, sum, res)
 }

@@ -1,8 +1,7 @@
 -- The reader's promise from what its parts ensure.
 use mathlib.Core.List.{List}
 use mathlib.Core.Path.{◌≡◌, sym, ap, subst, subst₂, ◌∙◌}
-use Prim.Native.Nat.{ℕ, ◌+◌, ◌*◌, ◌≤◌}
-use native.Mathlib.Omega.{arith}
+use Prim.Native.Nat.{ℕ}
 use lib.ListN.{length}
 use Rattle.plain.specs.Answer.{gives}
 use Rattle.numbers.specs.Laws.Bytes.{Bytes}
@@ -11,33 +10,19 @@ use Rattle.machine.specs.declared.Machine.{Machine}
 use Rattle.machine.specs.State.{fresh_machine, machine_with}
 use Rattle.machine.specs.Limits.{memory_length}
 use Rattle.machine.specs.Sum.{sum_of}
-use Rattle.machine.specs.Laws.Sum.{sum-padded}
+use Rattle.machine.proofs.Laws.Sum.{sum-padded}
 use Rattle.links.specs.Depths.{cells_depth}
 use Rattle.plain.specs.Zeros.{padded}
 use Rattle.image.specs.Format.{budget_of, cell_width}
 use Rattle.image.specs.Loading.{Returned, Read, wrong-memory, not-spelled, read, filled, loaded_from, refused_with, other_memory}
 use Rattle.image.specs.Judging.{bad_file, finds, says_judged, values_in, judged_of}
-use Rattle.image.specs.Laws.Section.{elements-inside}
-use Rattle.image.specs.Laws.Sound.{GoodFile, image_in, good-file, image-spellable, image-spells}
-use Rattle.image.specs.Laws.Computed.{none-spells}
+use Rattle.image.specs.Laws.Sound.{image_in, good-file, image-spellable, image-spells}
+use Rattle.image.proofs.Laws.Computed.{none-spells}
 use Rattle.image.specs.declared.Fault.{Fault}
 use Rattle.image.specs.declared.Judged.{Judged}
 use Rattle.image.specs.declared.Section.TheVariants.{Memory, Cells, Budget}
 use Rattle.image.specs.declared.Spans.{Spans}
 use Rattle.image.specs.declared.Judged.TheVariants as judged
-
--- where the sections of a good file lie
-module _ (file : List ℕ) (spans : Spans) (good : GoodFile file spans) where
-  pub memory-lies : (spans.memory.from + spans.memory.count ≤ length file) × (spans.memory.count ≤ memory_length)
-  memory-lies =
-      let in-file : spans.memory.from + 1 * spans.memory.count ≤ length file = elements-inside file Memory 0 spans.memory good.memory-whole in
-      (omega arith, good.memory-whole.fit)
-
-  pub cells-lie : (spans.cells.from + cell_width * spans.cells.count ≤ length file) × (spans.cells.count ≤ cells_depth)
-  cells-lie = (elements-inside file Cells spans.memory.to spans.cells good.cells_whole, good.cells_whole.fit)
-
-  pub budget-lies : spans.budget.from + cell_width * spans.budget.count ≤ length file
-  budget-lies = elements-inside file Budget spans.cells.to spans.budget good.budget-whole
 
 -- what is placed is the image
 module _ (file : List ℕ) (spans : Spans) where

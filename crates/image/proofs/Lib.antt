@@ -2,3 +2,4 @@ pub mod Reading
 pub mod Stops
 pub mod Placing
 pub mod Answers
+pub mod Laws

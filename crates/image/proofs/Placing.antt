@@ -12,7 +12,7 @@ use Rattle.numbers.specs.Lists.{list_at}
 use Rattle.numbers.specs.Laws.Lists.{length-list-at}
 use Rattle.plain.specs.Zeros.{padded}
 use Rattle.machine.specs.Sum.{sum_of}
-use Rattle.machine.specs.Laws.Sum.{sum-append}
+use Rattle.machine.proofs.Laws.Sum.{sum-append}
 use Rattle.image.specs.Format.{budget_of, cell_width}
 
 one-zero-more : (j : ℕ) (ys : List ℕ) → replicate j 0 ++ 0 ∷ ys ≡ replicate (j + 1) 0 ++ ys

@@ -13,7 +13,5 @@ pub mod Cases
 pub mod Only
 -- the memory sum that is handed out
 pub mod Sum
--- the one answer as a computation
-pub mod Computed
 -- document 01's sample, and the default budget
 pub mod Sample

@@ -1,4 +1,6 @@
 // The reader of image files: document 01, "Image file".
+#![tactic(auto)]
+
 mod judging;
 mod place;
 mod sections;
@@ -11,7 +13,7 @@ use machine::Machine;
 pub use sections::{LONGEST_FILE, limits_of, longest_file};
 
 // The sections of a file, in their order.
-#[derive(Drop)]
+#[derive(Clone, Copy)]
 pub enum Section {
     Memory,
     Cells,
@@ -19,7 +21,7 @@ pub enum Section {
 }
 
 // What a section may hold: the bytes of an element, the fewest elements and the most.
-#[derive(Drop)]
+#[derive(Clone, Copy)]
 pub struct Limits {
     pub width: usize,
     pub fewest: usize,
@@ -27,7 +29,7 @@ pub struct Limits {
 }
 
 // The elements of a section: the byte of the file where they begin, how many they are, and the byte after them.
-#[derive(Drop)]
+#[derive(Clone, Copy)]
 pub struct Span {
     pub from: usize,
     pub count: usize,
@@ -35,7 +37,7 @@ pub struct Span {
 }
 
 // The elements of each section.
-#[derive(Drop)]
+#[derive(Clone, Copy)]
 pub struct Spans {
     pub memory: Span,
     pub cells: Span,
@@ -43,7 +45,7 @@ pub struct Spans {
 }
 
 // What is wrong with a file, and at which byte of it.
-#[derive(Drop)]
+#[derive(Clone, Copy)]
 pub enum Fault {
     // The file ends before the section that begins here does.
     Cut(Section, usize),
@@ -56,21 +58,21 @@ pub enum Fault {
 }
 
 // A section: what is wrong with it, or its elements.
-#[derive(Drop)]
+#[derive(Clone, Copy)]
 pub(crate) enum Met {
     Bad(Fault),
     Good(Span),
 }
 
 // A whole file: what is wrong with it, or the elements of its sections.
-#[derive(Drop)]
+#[derive(Clone, Copy)]
 pub enum Judged {
     Bad(Fault),
     Good(Spans),
 }
 
 // A good file has no answer number.
-#[derive(Drop)]
+#[derive(Clone, Copy)]
 pub enum Verdict {
     Good,
     Refused(u32),
@@ -78,7 +80,7 @@ pub enum Verdict {
 
 // What the reader returns, with the sum of the memory that it filled: after a refusal the machine is fresh, and budget and sum are 0.
 // The machine stands first: behind the verdict, its cells are copied twice more before a run (docs/SPEED.md).
-#[derive(Drop)]
+#[derive(Clone, Copy)]
 pub struct Loaded {
     pub machine: Machine,
     pub verdict: Verdict,

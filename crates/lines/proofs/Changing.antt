@@ -12,7 +12,7 @@ use Rattle.numbers.specs.Bytes.{number_at}
 use Rattle.numbers.specs.Slices.{too_short, read_at, Wrote, write_at}
 use Rattle.numbers.specs.Laws.Slices.{read-inside, write-inside}
 use Rattle.machine.specs.Lines.{raised}
-use Rattle.machine.specs.Laws.Clash.{never}
+use Rattle.machine.proofs.Laws.Clash.{never}
 use Rattle.state.specs.Layout as layout
 use Rattle.requests.specs.Requests.{is_line, raised_by}
 use Rattle.lines.specs.Bytes.{Lent, mask_place, waiting_place, untouched, changed, raised_in, masked_in}

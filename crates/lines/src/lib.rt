@@ -1,5 +1,7 @@
 // Interrupt lines for hosts in other languages that hold a whole machine as bytes: between runs a host raises a line or sets the mask.
 // A state that is not well formed is the next run's matter.
+#![tactic(auto)]
+
 ghost use Rattle.std.specs.Prelude.{◌≡◌};
 ghost use Rattle.lines.specs.Bytes.{raised_in, masked_in};
 
@@ -9,8 +11,7 @@ use requests::Raised;
 const MASKS: u64 = 0x10000;
 
 // Raises a line from 1 to 15: its request waits until it is served, and twice is once. A call that answers 2 touches nothing.
-#[unsafe(no_mangle)]
-pub extern "C" fn glidecotton_raise_line(state: &mut [u8], line: u64) -> u64
+pub fn glidecotton_raise_line(state: &mut [u8], line: u64) -> u64
     ensures { record { number = result; state = state.new } ≡ raised_in line state.old }
 {
     if state.len() != state::SIZE {
@@ -30,8 +31,7 @@ pub extern "C" fn glidecotton_raise_line(state: &mut [u8], line: u64) -> u64
 }
 
 // Sets the mask: bit n lets line n in. A call that answers 2 touches nothing.
-#[unsafe(no_mangle)]
-pub extern "C" fn glidecotton_set_mask(state: &mut [u8], mask: u64) -> u64
+pub fn glidecotton_set_mask(state: &mut [u8], mask: u64) -> u64
     ensures { record { number = result; state = state.new } ≡ masked_in mask state.old }
 {
     if state.len() != state::SIZE {

@@ -1,2 +1,3 @@
 pub mod Descent
 pub mod Depths
+pub mod Laws

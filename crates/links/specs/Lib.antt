@@ -14,4 +14,3 @@ pub mod Fresh
 pub mod Restored
 -- what links that exist can hold
 pub mod Fits
-pub mod Laws

@@ -1,5 +1,6 @@
 // The three linked stacks of document 01: returns, subroutine levels and exception levels.
 // What an action does to them is a definition (specs/Actions.antt); this crate's code makes the parts and tests the whole.
+#![tactic(auto)]
 
 mod formed;
 mod fresh;
@@ -9,7 +10,7 @@ ghost use Rattle.links.specs.Fresh.{fresh_links};
 ghost use Rattle.links.specs.Linked.{linked};
 
 // A subroutine level: its locals, the copy of R and the return address (levels from 1; level 0 leaves both at zero).
-#[derive(Drop)]
+#[derive(Clone, Copy)]
 pub struct Frame {
     pub locals: [u32; Frame::LOCALS],
     pub r: usize,
@@ -17,7 +18,7 @@ pub struct Frame {
 }
 
 // An exception level: its cells, the copies of S and of P and the throw address (levels from 1; level 0 leaves the three at zero).
-#[derive(Drop)]
+#[derive(Clone, Copy)]
 pub struct Level {
     pub cells: [u32; Level::CELLS],
     pub s: usize,
@@ -26,7 +27,7 @@ pub struct Level {
 }
 
 // The return cells with R, the subroutine levels with S and the exception levels with E.
-#[derive(Drop)]
+#[derive(Clone, Copy)]
 pub struct Links {
     pub returns: [u32; Links::RETURNS],
     pub r: usize,

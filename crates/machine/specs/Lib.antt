@@ -36,4 +36,3 @@ pub mod AfterThrow
 pub mod AfterEntry
 -- what a machine and a memory that exist can hold
 pub mod Fits
-pub mod Laws

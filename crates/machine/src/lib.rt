@@ -1,5 +1,7 @@
 // The machine of document 01: its state, its two counters and its cycle table.
 // What it does is defined in specs/ (Step.antt, Run.antt); the crate run carries it out.
+#![tactic(auto)]
+
 mod costs;
 mod state;
 mod turns;
@@ -9,7 +11,7 @@ use links::Links;
 
 // The state: the parameter stack with its depth P, the three linked stacks, the program counter, the extend flag, where it was last
 // thrown, and the interrupt lines.
-#[derive(Drop)]
+#[derive(Clone, Copy)]
 pub struct Machine {
     pub cells: [u32; Machine::CELLS],
     pub p: usize,
@@ -21,14 +23,14 @@ pub struct Machine {
 }
 
 // The last THROW of non-zero that was carried out: its own address, and the number thrown.
-#[derive(Drop)]
+#[derive(Clone, Copy)]
 pub struct LastThrow {
     pub address: u32,
     pub code: u32,
 }
 
 // The interrupt lines: those that are let in and those that wait, a bit a line, and whether a routine is in progress, 0 or 1.
-#[derive(Drop)]
+#[derive(Clone, Copy)]
 pub struct Lines {
     pub mask: u32,
     pub waiting: u32,
@@ -36,15 +38,15 @@ pub struct Lines {
 }
 
 // Completed instructions. Steps and cycles are two counters: neither can be added to the other or passed for it.
-#[derive(Drop)]
+#[derive(Clone, Copy)]
 pub struct Steps(pub u32);
 
 // The manual's clock cycles.
-#[derive(Drop)]
+#[derive(Clone, Copy)]
 pub struct Cycles(pub u32);
 
 // What a run answers, the instructions that it completed, the cycles that they took, and the machine that it leaves.
-#[derive(Drop)]
+#[derive(Clone, Copy)]
 pub struct Ran {
     pub answer: u32,
     pub steps: Steps,
@@ -53,7 +55,7 @@ pub struct Ran {
 }
 
 // Who may touch which byte of memory: those below `shared`, and those from `own` to before `end`.
-#[derive(Drop)]
+#[derive(Clone, Copy)]
 pub struct Reach {
     pub shared: usize,
     pub own: usize,
@@ -61,14 +63,14 @@ pub struct Reach {
 }
 
 // Four tasks: a machine for each, and the number that it keeps: that it is ready, or the answer with which it left.
-#[derive(Drop)]
+#[derive(Clone, Copy)]
 pub struct Tasks {
     pub machines: [Machine; Tasks::COUNT],
     pub kept: [usize; Tasks::COUNT],
 }
 
 // What a run of tasks answers, the steps and the cycles of all of them, and the tasks that it leaves.
-#[derive(Drop)]
+#[derive(Clone, Copy)]
 pub struct RanTasks {
     pub answer: u32,
     pub steps: Steps,
@@ -77,7 +79,7 @@ pub struct RanTasks {
 }
 
 // How wide a memory access is.
-#[derive(Drop)]
+#[derive(Clone, Copy)]
 pub enum Width {
     Byte,
     Word,
@@ -85,7 +87,7 @@ pub enum Width {
 }
 
 // Where an access lies: in memory from this address; in view from this byte of the cells in view; or nowhere.
-#[derive(Drop)]
+#[derive(Clone, Copy)]
 pub enum Place {
     Memory(usize),
     View(usize),

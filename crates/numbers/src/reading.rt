@@ -29,6 +29,7 @@ fn eight_at(bytes: &[u8], at: usize) -> u64
     )
 }
 
+#[tactic(auto, using(crate::proofs::Answering::found, crate::proofs::Answering::not_found))]
 pub fn read_one(bytes: &[u8], at: usize) -> Found
     ensures { says_found result ≡ read_at 1 bytes.now at }
 {
@@ -38,6 +39,7 @@ pub fn read_one(bytes: &[u8], at: usize) -> Found
     Found::Outside
 }
 
+#[tactic(auto, using(crate::proofs::Answering::found, crate::proofs::Answering::not_found))]
 pub fn read_two(bytes: &[u8], at: usize) -> Found
     ensures { says_found result ≡ read_at 2 bytes.now at }
 {
@@ -47,6 +49,7 @@ pub fn read_two(bytes: &[u8], at: usize) -> Found
     Found::Outside
 }
 
+#[tactic(auto, using(crate::proofs::Answering::found, crate::proofs::Answering::not_found))]
 pub fn read_four(bytes: &[u8], at: usize) -> Found
     ensures { says_found result ≡ read_at 4 bytes.now at }
 {
@@ -56,6 +59,7 @@ pub fn read_four(bytes: &[u8], at: usize) -> Found
     Found::Outside
 }
 
+#[tactic(auto, using(crate::proofs::Answering::found, crate::proofs::Answering::not_found))]
 pub fn read_eight(bytes: &[u8], at: usize) -> FoundEight
     ensures { says_found_eight result ≡ read_at 8 bytes.now at }
 {

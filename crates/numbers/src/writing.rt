@@ -42,6 +42,7 @@ fn put_eight(bytes: &mut [u8], at: usize, value: u64)
     put_four(bytes, at + 4, (value % 0x100000000) as u32);
 }
 
+#[tactic(auto, using(crate::proofs::Answering::written, crate::proofs::Answering::not_written))]
 pub fn write_one(bytes: &mut [u8], at: usize, value: u32) -> Written
     ensures { record { said = says_written result; bytes = bytes.new } ≡ write_at 1 value bytes.old at }
 {
@@ -52,6 +53,7 @@ pub fn write_one(bytes: &mut [u8], at: usize, value: u32) -> Written
     Written::Outside
 }
 
+#[tactic(auto, using(crate::proofs::Answering::written, crate::proofs::Answering::not_written))]
 pub fn write_two(bytes: &mut [u8], at: usize, value: u32) -> Written
     ensures { record { said = says_written result; bytes = bytes.new } ≡ write_at 2 value bytes.old at }
 {
@@ -62,6 +64,7 @@ pub fn write_two(bytes: &mut [u8], at: usize, value: u32) -> Written
     Written::Outside
 }
 
+#[tactic(auto, using(crate::proofs::Answering::written, crate::proofs::Answering::not_written))]
 pub fn write_four(bytes: &mut [u8], at: usize, value: u32) -> Written
     ensures { record { said = says_written result; bytes = bytes.new } ≡ write_at 4 value bytes.old at }
 {
@@ -72,6 +75,7 @@ pub fn write_four(bytes: &mut [u8], at: usize, value: u32) -> Written
     Written::Outside
 }
 
+#[tactic(auto, using(crate::proofs::Answering::written, crate::proofs::Answering::not_written))]
 pub fn write_eight(bytes: &mut [u8], at: usize, value: u64) -> Written
     ensures { record { said = says_written result; bytes = bytes.new } ≡ write_at 8 value bytes.old at }
 {

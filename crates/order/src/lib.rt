@@ -1,4 +1,6 @@
 // Whose turn it is.
+#![tactic(auto)]
+
 ghost use Rattle.std.specs.Prelude.{◌≡◌, ◌+◌, ◌%◌};
 ghost use Rattle.machine.specs.Limits.{tasks_count};
 ghost use Rattle.machine.specs.Tasks.{in_order, following};
@@ -6,7 +8,7 @@ ghost use Rattle.order.specs.Order.{first_kept, says_next};
 
 use machine::Tasks;
 
-#[derive(Drop)]
+#[derive(Clone, Copy)]
 pub enum Next {
     Nobody,
     Task(usize),

@@ -1,4 +1,6 @@
 // Who may touch which byte: what fetches, loads and stores ask before they touch memory.
+#![tactic(auto)]
+
 mod bounds;
 mod place;
 
@@ -6,7 +8,7 @@ pub use bounds::{barred, is_foreign};
 pub use place::spot_of;
 
 // The first of some bytes that may not be touched: none, one outside memory, one in another's part.
-#[derive(Drop)]
+#[derive(Clone, Copy)]
 pub enum Barring {
     None,
     Outside,
@@ -15,7 +17,7 @@ pub enum Barring {
 
 // Where a fetch or a store reaches: memory from this address, the own part from this address, the whole of this local of level S, the
 // whole of this cell of level E, or the cells in view from this byte.
-#[derive(Drop)]
+#[derive(Clone, Copy)]
 pub enum Spot {
     Memory(usize),
     Own(usize),
@@ -25,7 +27,7 @@ pub enum Spot {
 }
 
 // An access reaches a place, or is refused.
-#[derive(Drop)]
+#[derive(Clone, Copy)]
 pub enum Reached {
     At(Spot),
     Refused(u32),

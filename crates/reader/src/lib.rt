@@ -1,5 +1,7 @@
 // The reader for hosts in other languages: an image in, a machine, a budget and a memory sum out, as bytes. It stands apart from the run
-// of such a machine, so that each of the two exported functions has all that it calls compiled into it.
+// of such a machine, so that each of the two exported functions has all that it calls compiled into it; reader_c exports it.
+#![tactic(auto)]
+
 ghost use Rattle.reader.specs.Reads.{Reads};
 
 // What stands in the result: the budget and the sum of the memory that was filled, in 8 bytes each.
@@ -11,14 +13,13 @@ const RESULT: usize = RESULT_SUM + 8;
 
 // Reads an image into the lent memory, and hands out the machine, the budget and the memory sum. State and result are measured
 // first and the file is judged whole, so that only a call that answers 0 touches anything.
-#[unsafe(no_mangle)]
-pub extern "C" fn glidecotton_read_image(
+pub fn glidecotton_read_image(
     image: &[u8],
     memory: &mut [u8],
     state: &mut [u8],
     res: &mut [u8],
 ) -> u64
-    ensures* { λ r. ⌜ Reads image.now memory.old state.old res.old (record { number = r; state = state.new; memory = memory.new; result = res.new }) ⌝ }
+    ensures { let answer = result in Reads image.now memory.old state.old res.old (record { number = answer; state = state.new; memory = memory.new; result = res.new }) }
 {
     if state.len() != state::SIZE {
         return 2;

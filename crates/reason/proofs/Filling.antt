@@ -13,7 +13,7 @@ use borrow.Author.Tests.{ltb-true, ltb-false}
 use Rattle.plain.specs.Choice.{both}
 use Rattle.numbers.specs.Digits.{decimal, most_decimal}
 use Rattle.numbers.specs.Putting.{Appended}
-use Rattle.numbers.specs.Laws.Putting.{appended-none, appended_then, appended-last, appended-long}
+use Rattle.numbers.specs.Laws.Putting.{appended_then, appended-last, appended-long}
 use Rattle.reason.specs.Words.{mark, filled}
 
 -- a mark with a number left, and a character that is none or comes after the last number
@@ -37,9 +37,6 @@ both_true : (a b : Bool) → both a b ≡ true → (a ≡ true) × (b ≡ true)
 both_true true b h = (refl, h)
 both_true false b h = absurd (false≢true h)
 
-pub number-left : (c next count : ℕ) (test : Bool) → test ≡ both (eqb c mark) (ltb next count) → test ≡ true → next < count
-number-left c next count test is h = ltb-true next count (both_true (eqb c mark) (ltb next count) (sym is ∙ h)).1
-
 module _ (words numbers l : List ℕ) (from : ℕ) where
   -- so many of the words and of the numbers are put
   pub record Filling (m : List ℕ) (at next i : ℕ) : Type 0 where
@@ -50,10 +47,6 @@ module _ (words numbers l : List ℕ) (from : ℕ) where
     pub fewer : next ≤ length numbers
     pub short : at ≤ from + i + next * most_decimal
     pub as_long : length m ≡ length l
-
-  pub filling-none : Filling l from 0 0
-  filling-none =
-      record { done = []; rest = refl; added = appended-none l from; few = omega arith; fewer = omega arith; short = omega arith; as_long = refl }
 
   module _ (m : List ℕ) (at next i : ℕ) (f : Filling m at next i) (more : i < length words) where
     abbrev word : ℕ

@@ -1,13 +1,11 @@
 -- The line about a file: a place and then a clause, put from the start of a text of zeros.
 use mathlib.Core.List.{List, [], ◌∷◌, ◌++◌}
 use mathlib.Core.Path.{◌≡◌, sym, ap, subst, ◌∙◌}
-use Prim.Native.Nat.{ℕ, ◌+◌, ◌-◌, ◌*◌, ◌≤◌, ◌<◌, ◌^◌}
-use native.Mathlib.Nat.{mul-le-mul}
+use Prim.Native.Nat.{ℕ, ◌+◌, ◌-◌, ◌*◌, ◌≤◌}
 use native.Mathlib.Omega.{arith}
 use lib.ListN.{length, drop, replicate, length-replicate, replicate-append-replicate}
 use lib.Seq.{sets-eq, drop_at}
 use Rattle.plain.specs.Zeros.{padded}
-use Rattle.machine.specs.Limits.{most_budget}
 use Rattle.numbers.specs.Bytes.{number_at}
 use Rattle.numbers.specs.Putting.{Appended}
 use Rattle.numbers.specs.Slices.{says_found, read_at}
@@ -16,27 +14,14 @@ use Rattle.numbers.specs.declared.Found.TheVariants.{Number, Outside}
 use Rattle.image.specs.Format.{limits, count_width}
 use Rattle.image.specs.Judging.{Finding, Judges, says_judged}
 use Rattle.image.specs.declared.Section.{Section}
-use Rattle.image.specs.declared.Section.TheVariants.{Memory, Cells, Budget}
 use Rattle.image.specs.declared.Fault.{Fault}
 use Rattle.image.specs.declared.Limits.{Limits}
 use Rattle.image.specs.declared.Spans.{Spans}
 use Rattle.image.specs.declared.Judged.{Judged}
 use Rattle.image.specs.declared.Judged.TheVariants.{Bad, Good}
 use Rattle.reason.specs.Words.{filled}
-use Rattle.reason.specs.Reason.{found_at, place_told, short_told, missing_told, cut_told, fault_told, good_told, finding_told, reason_of, line_of, room}
+use Rattle.reason.specs.Reason.{found_at, short_told, missing_told, cut_told, fault_told, good_told, finding_told, reason_of, line_of, room}
 use Rattle.reason.proofs.Found.{was-inside, was-outside}
-
--- the bytes that a count asks for are a number of 64 bits
-pub small_product : (s : Section) (l : Limits) (n : ℕ) → l ≡ limits s → n < 2 ^ 32 → l.width * n < 2 ^ 64
-small_product s l n is h =
-    let narrow : l.width ≤ 4 = subst (λ (k : Limits). k.width ≤ 4) (sym is) (by-section s) in
-    let product : l.width * n ≤ 4 * n = mul-le-mul narrow (omega arith) in
-    omega arith
-  where
-    by-section : (t : Section) → (limits t).width ≤ 4
-    by-section Memory = omega arith
-    by-section Cells = omega arith
-    by-section Budget = omega arith
 
 -- the same words with numbers known by other names
 pub retold : {before after : List ℕ} {from next : ℕ} (words xs ys : List ℕ) → xs ≡ ys
@@ -46,17 +31,10 @@ retold {before} {after} {from} {next} words xs ys e = subst (λ (ns : List ℕ).
 pub told-as : {before after : List ℕ} {from next : ℕ} {xs ys : List ℕ} → xs ≡ ys → Appended before from xs after next → Appended before from ys after next
 told-as {before} {after} {from} {next} e = subst (λ (t : List ℕ). Appended before from t after next) e
 
--- what was put for a section or a fault that is known
-pub place-put : {before after : List ℕ} {next : ℕ} (s t : Section) (at : ℕ) → s ≡ t → Appended before 0 (place_told t at) after next
-    → Appended before 0 (place_told s at) after next
-place-put s t at e = told-as (ap (λ (u : Section). place_told u at) (sym e))
-
+-- what was put for a fault that is known
 pub fault-put : {before after : List ℕ} {next : ℕ} (file : List ℕ) (f g : Fault) → f ≡ g → Appended before 0 (fault_told file g) after next
     → Appended before 0 (fault_told file f) after next
 fault-put file f g e = told-as (ap (fault_told file) (sym e))
-
-pub budget-numbers : (file : List ℕ) (at n : ℕ) → n ≡ found_at file at → n ∷ most_budget ∷ [] ≡ found_at file at ∷ most_budget ∷ []
-budget-numbers file at n is = ap (λ (m : ℕ). m ∷ most_budget ∷ []) is
 
 module _ (file : List ℕ) (s : Section) (at : ℕ) where
   pub count-numbers : (n : ℕ) (l : Limits) → n ≡ found_at file at → l ≡ limits s

@@ -1,4 +1,6 @@
 // What the reader meets in a file, in one line of text.
+#![tactic(auto)]
+
 mod faults;
 mod words;
 
@@ -11,7 +13,7 @@ use image::Judged;
 const ROOM: usize = 200;
 
 // A line with its line feed: the first bytes of the text. The others are 0.
-#[derive(Drop)]
+#[derive(Clone, Copy)]
 pub struct Line {
     pub text: [u8; ROOM],
     pub count: usize,

@@ -4,7 +4,7 @@ use mathlib.Core.Path.{◌≡◌, sym, ap, subst, ◌∙◌}
 use Prim.Native.Nat.{ℕ, ◌≤◌, ◌<◌}
 use native.Mathlib.Omega.{arith}
 use lib.ListN.{length, take, drop}
-use lib.Seq.{length-take-le, take-length}
+use lib.Seq.{length-take-le}
 use borrow.Author.Tests.{le-leb, lt-leb}
 use Rattle.plain.specs.Answer.{gives}
 use Rattle.numbers.specs.Putting.{Appended}
@@ -17,27 +17,19 @@ use Rattle.report.specs.Printing.{Reported, printed_in, untouched, report_of, re
 use Rattle.report.specs.Laws.Size.{field-size, text-size}
 
 module _ (text : List ℕ) (count : ℕ) (before : List ℕ) (within : count ≤ length text) where
-  pub counted : count ≡ length (take count text)
-  counted = sym (length-take-le count text within)
-
-  pub has_room : count ≤ length before → length (take count text) ≤ length before
-  has_room h = let long : length (take count text) ≡ count = length-take-le count text within in omega arith
-
   pub too_long : length before < count → untouched before ≡ printed_in (take count text) before
   unfolding printed_in
   too_long h =
       let long : length (take count text) ≡ count = length-take-le count text within in
       simp (lt-leb (length (take count text)) (length before) (omega arith))
 
-  pub printed-text : (n : ℕ) (after : List ℕ) → count ≤ length before → n ≡ length (take count text)
-      → after ≡ take (length (take count text)) (take count text) ++ drop (length (take count text)) before
-      → record { printed = gives n; out = after } ≡ printed_in (take count text) before
+  pub printed-text : (copied : List ℕ) → count ≤ length before → copied ≡ take count text
+      → record { printed = gives count; out = copied ++ drop count before } ≡ printed_in (take count text) before
   unfolding printed_in
-  printed-text n after h e is =
+  printed-text copied h is =
       let long : length (take count text) ≡ count = length-take-le count text within in
-      let out : after ≡ take count text ++ drop (length (take count text)) before =
-      is ∙ ap (λ (t : List ℕ). t ++ drop (length (take count text)) before) (take-length (take count text)) in
-      simp (le-leb (length (take count text)) (length before) (omega arith)) (λ i. record { printed = gives (e i); out = out i })
+      simp (le-leb (length (take count text)) (length before) (omega arith))
+      (λ i. record { printed = gives (sym long i); out = is i ++ drop (sym long i) before })
 
 pub refusal-printed : (number : ℕ) (out l m : List ℕ) (end : ℕ) (reported : Reported) → length l ≡ longest_field
     → Appended l 0 (field number line_feed) m end → reported ≡ printed_in (take end m) out → reported ≡ refusal_of number out

@@ -1,4 +1,6 @@
 // The bench program's text, as bytes in a lent buffer.
+#![tactic(auto)]
+
 mod lines;
 mod sizes;
 
@@ -12,7 +14,7 @@ pub use sizes::LONGEST;
 const UNFIT: u32 = 2;
 
 // How many bytes were written, or the answer number of a call that wrote none.
-#[derive(Drop)]
+#[derive(Clone, Copy)]
 pub enum Printed {
     Text(usize),
     Refused(u32),
@@ -26,7 +28,8 @@ fn print(text: &[u8], count: usize, out: &mut [u8]) -> Printed
     if out.len() < count {
         return Printed::Refused(UNFIT);
     }
-    Printed::Text(bytes::copy(&text[..count], out))
+    out[..count].copy_from_slice(&text[..count]);
+    Printed::Text(count)
 }
 
 // The text of a run. It is made aside first, so that a buffer too short for it stays untouched.

@@ -1,4 +1,6 @@
 // Requests for the interrupt lines: which line enters, what its entry leaves, and how a host raises one.
+#![tactic(auto)]
+
 ghost use Rattle.std.specs.Prelude.{◌≡◌, ◌-◌, ◌^◌, ◌<◌};
 ghost use Rattle.machine.specs.Lines.{lowest_due, serving};
 ghost use Rattle.requests.specs.Requests.{says_due, entering_with, says_raised, raised_by};
@@ -6,14 +8,14 @@ ghost use Rattle.requests.specs.Requests.{says_due, entering_with, says_raised, 
 use machine::{Lines, Machine};
 
 // The line that enters.
-#[derive(Drop)]
+#[derive(Clone, Copy)]
 pub enum Due {
     Nobody,
     Line(u32),
 }
 
 // The requests that then wait.
-#[derive(Drop)]
+#[derive(Clone, Copy)]
 pub enum Raised {
     Waiting(u32),
     Refused(u32),

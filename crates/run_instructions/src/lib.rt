@@ -1,4 +1,6 @@
 // The longer arms of the loop, the tests before an action, and what is counted. A part of the run.
+#![tactic(auto)]
+
 pub mod arms;
 pub mod checks;
 pub mod leave;

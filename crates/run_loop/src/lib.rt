@@ -1,2 +1,4 @@
 // The run's loop. A part of the run.
+#![tactic(auto)]
+
 pub mod round;

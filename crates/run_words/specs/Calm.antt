@@ -1,5 +1,5 @@
 -- When no line can enter: the loop tests for lines no more often than it must.
-use Rattle.std.specs.Prelude.{◌≡◌, Bool, true, false, List, ◌⊎◌, ℕ, ◌≤◌, leb, eqb}
+use Rattle.std.specs.Prelude.{◌≡◌, Bool, false, List, ◌⊎◌, ℕ, ◌≤◌, leb, eqb}
 use Rattle.plain.specs.Choice.{pick}
 use Rattle.links.specs.Depths.{returns_depth, subroutines_depth}
 use Rattle.machine.specs.Limits.{shared_length}

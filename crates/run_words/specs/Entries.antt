@@ -1,8 +1,6 @@
 -- What a line that enters makes of a machine in its arrays, and whether one might enter in a run.
-use Rattle.std.specs.Prelude.{◌≡◌, Bool, true, false, List, ◌⊎◌, ℕ}
-use Rattle.machine.specs.Limits.{tasks_count}
+use Rattle.std.specs.Prelude.{◌≡◌, Bool, true, false, List, ℕ}
 use Rattle.machine.specs.Lines.{none, lowest_due, let_in}
-use Rattle.machine.specs.declared.Machine.{Machine}
 use Rattle.run_words.specs.Notes.{heeding}
 use Rattle.run_words.specs.Calm.{Calm}
 use Rattle.run_words.specs.Levels.{frames_in, levels_in, note_in, in_rows, Laid, Hold}

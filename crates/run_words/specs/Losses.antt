@@ -3,7 +3,7 @@ use Rattle.std.specs.Prelude.{List, ◌⊎◌, ◌≡◌, ℕ, ◌+◌, ◌-◌,
 use Rattle.std.proofs.lemmas.List.Edits.{sets}
 use Rattle.numbers.specs.Bytes.{bytes_of}
 use Rattle.machine.specs.Sum.{sum_of}
-use Rattle.machine.specs.Laws.Sum.{standing}
+use Rattle.machine.proofs.Laws.Sum.{standing}
 
 -- one of three codes
 abbrev pub OneOf : ℕ → ℕ → ℕ → ℕ → Type 0

@@ -6,7 +6,7 @@ use Rattle.machine.specs.Lines.{lowest_due}
 use Rattle.machine.specs.Run.{acceptable, ended}
 use Rattle.machine.specs.State.{Whole}
 use Rattle.machine.specs.Sum.{sum_after}
-use Rattle.machine.specs.Laws.Kept.{Formed}
+use Rattle.machine.proofs.Laws.Kept.{Formed}
 use Rattle.machine.specs.declared.Machine.{Machine}
 use Rattle.machine.specs.declared.Reach.{Reach}
 use Rattle.run_words.specs.Calm.{lines_enter, run_in, Quiet, Calm}

@@ -1,8 +1,10 @@
 // The words of the run: the types that its functions share, and in specs/ what they promise by.
+#![tactic(auto)]
+
 use machine::{Cycles, Steps};
 
 // The instruction at the program counter: its code, its operand and the address of the following one; or a refusal's number.
-#[derive(Drop)]
+#[derive(Clone, Copy)]
 pub enum Fetched {
     Instruction(u8, u32, u32),
     Refused(u32),
@@ -10,7 +12,7 @@ pub enum Fetched {
 
 // The flag, the counter and the depth after an instruction that touches the parameter cells alone. The depth stands last:
 // a field as wide as a refusal's number would make the compiler join the two stores and keep the answer in memory.
-#[derive(Drop)]
+#[derive(Clone, Copy)]
 pub struct Stack {
     pub flag: u32,
     pub counter: u32,
@@ -18,35 +20,35 @@ pub struct Stack {
 }
 
 // An instruction on the parameter cells was carried out, or refused.
-#[derive(Drop)]
+#[derive(Clone, Copy)]
 pub enum Done {
     Went(Stack),
     Refused(u32),
 }
 
 // Whether the linked stacks can do what an instruction asks.
-#[derive(Drop)]
+#[derive(Clone, Copy)]
 pub enum Checked {
     Fine,
     Refused(u32),
 }
 
 // What EXIT leaves: a subroutine level, or, with S = 0, the program.
-#[derive(Drop)]
+#[derive(Clone, Copy)]
 pub enum Exit {
     Frame,
     Program,
 }
 
 // What THROW takes from the parameter stack.
-#[derive(Drop)]
+#[derive(Clone, Copy)]
 pub enum Throw {
     Zero,
     Code(u32),
 }
 
 // THROW found something to throw, or is refused.
-#[derive(Drop)]
+#[derive(Clone, Copy)]
 pub enum Thrown {
     Found(Throw),
     Refused(u32),
@@ -54,7 +56,7 @@ pub enum Thrown {
 
 // P, R, S, E, the program counter and the flag; what is left of the budget and the cycles so far; and, once the run is over,
 // its answer with what it did not spend, and whether it goes on, since a line might enter.
-#[derive(Drop)]
+#[derive(Clone, Copy)]
 pub struct Registers {
     pub p: usize,
     pub r: usize,
@@ -70,7 +72,7 @@ pub struct Registers {
 }
 
 // What a machine keeps between two turns beside its arrays: P, R, S, E, the program counter and the flag.
-#[derive(Drop)]
+#[derive(Clone, Copy)]
 pub struct Pointers {
     pub p: usize,
     pub r: usize,
@@ -82,7 +84,7 @@ pub struct Pointers {
 
 // Which task is asked first, what is left of the budget and the cycles so far; and, once the run of tasks is over, its answer
 // with what it did not spend.
-#[derive(Drop)]
+#[derive(Clone, Copy)]
 pub struct Clock {
     pub from: usize,
     pub left: Steps,

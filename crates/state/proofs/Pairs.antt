@@ -4,7 +4,7 @@ use mathlib.Core.Path.{◌≡◌, sym, subst}
 use Prim.Native.Nat.{ℕ}
 use lib.ListN.{length, get_or}
 use Rattle.machine.specs.Tasks.{Task, task_of, paired, no_machine, task_at}
-use Rattle.machine.specs.Laws.Pairs.{paired_at}
+use Rattle.machine.proofs.Laws.Pairs.{paired_at}
 use Rattle.machine.specs.declared.Machine.{Machine}
 use Rattle.state.specs.Layout.{task}
 use Rattle.state.specs.Places.{PartPut}

@@ -130,6 +130,7 @@ pub data PutAll {A : Type 0} (a : A) : List (Field A) → List ℕ → ℕ → L
 
 pub fields-put : {A : Type 0} (fs : List (Field A)) (a : A) (l : List ℕ) (at : ℕ) (k : List ℕ) → PutAll a fs l at k → PartPut (fields fs) l at a k
 unfolding field_bytes
+fields-put {A = A} [] a l at k x' = elim x' [ ]
 fields-put (f ∷ fs) a l at k (◌first◌ {m = m} p ps) =
     let q = after-put fs a m at f.part.width k ps in
     record {

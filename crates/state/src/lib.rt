@@ -1,5 +1,7 @@
 // A whole machine as bytes, both ways, and what its run counted, with the memory sum: for hosts that hold a machine only as a buffer.
 // The order of the bytes is one definition (specs/Layout.antt).
+#![tactic(auto)]
+
 mod places;
 mod reading;
 mod writing;
@@ -12,14 +14,14 @@ use machine::{Cycles, Machine, Steps, Tasks};
 pub use places::{MASK, RESULT, SIZE, TASKS, WAITING};
 
 // A buffer of the right length has no answer number.
-#[derive(Drop)]
+#[derive(Clone, Copy)]
 pub enum Verdict {
     Good,
     Refused(u32),
 }
 
 // After a refusal the machine is fresh.
-#[derive(Drop)]
+#[derive(Clone, Copy)]
 pub struct Taken {
     pub verdict: Verdict,
     pub machine: Machine,
@@ -55,7 +57,7 @@ pub fn give(machine: Machine, state: &mut [u8]) -> Verdict
 }
 
 // After a refusal the machines are fresh, and no task is ready.
-#[derive(Drop)]
+#[derive(Clone, Copy)]
 pub struct TakenTasks {
     pub verdict: Verdict,
     pub tasks: Tasks,

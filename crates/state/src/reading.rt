@@ -74,23 +74,16 @@ fn level_at(state: &[u8], at: usize) -> Level
     }
 }
 
-fn frames_at(state: &[u8], from: usize) -> [Frame; Links::FRAMES]
-    requires { from + (array frames_count layout.frame).width ≤ length state.now }
-    ensures { PartStands (array frames_count layout.frame) state.now from result }
+// Into frames that are lent: those of a result would stand on the stack beside them.
+fn frames_at(state: &[u8], from: usize, frames: &mut [Frame; Links::FRAMES])
+    requires { (from + (array frames_count layout.frame).width ≤ length state.now) × (length frames.old ≡ frames_count) }
+    ensures { PartStands (array frames_count layout.frame) state.now from frames.new }
 {
-    // not those of fresh links, which would stand on the stack beside these
-    let blank = Frame {
-        locals: [0u32; Frame::LOCALS],
-        r: 0,
-        address: 0,
-    };
-    let mut frames = [blank; Links::FRAMES];
     let mut i = 0;
     while i < Links::FRAMES {
         frames[i] = frame_at(state, from + i * places::FRAME);
         i += 1;
     }
-    frames
 }
 
 fn levels_at(state: &[u8], from: usize) -> [Level; Links::LEVELS]
@@ -116,14 +109,20 @@ fn links_at(state: &[u8], at: usize) -> Links
     requires { at + (layout.links).width ≤ length state.now }
     ensures { PartStands layout.links state.now at result }
 {
+    // not those of fresh links, which would stand on the stack beside these
+    let blank = Frame {
+        locals: [0u32; Frame::LOCALS],
+        r: 0,
+        address: 0,
+    };
+    let mut frames = [blank; Links::FRAMES];
+    frames_at(state, at + places::LINKS_FRAMES, &mut frames);
     let mut returns = [0u32; Links::RETURNS];
     fill(state, at, &mut returns);
     let r = pointer_at(state, at + places::LINKS_R);
     let s = pointer_at(state, at + places::LINKS_S);
     let levels = levels_at(state, at + places::LINKS_LEVELS);
     let e = pointer_at(state, at + places::LINKS_E);
-    // the frames last: read earlier, they would stand twice on the stack
-    let frames = frames_at(state, at + places::LINKS_FRAMES);
     Links {
         returns,
         r,

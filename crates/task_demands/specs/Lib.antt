@@ -10,5 +10,3 @@ pub mod Isolation
 pub mod Fairness
 -- a run of tasks as one task sees it
 pub mod Histories
-pub mod Laws
-pub mod Theorems

@@ -1,1 +1,3 @@
-// Four tasks on one memory: theorems about the definition of their run, all in specs/. There is no code here.
+// Four tasks on one memory: theorems about the definition of their run, in proofs/Theorems, over the definitions in specs/.
+// There is no code here.
+#![tactic(auto)]

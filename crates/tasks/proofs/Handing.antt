@@ -7,7 +7,7 @@ use Rattle.plain.specs.Answer.{Answer, refuses, gives}
 use Rattle.machine.specs.Limits.{most_budget, most_quantum}
 use Rattle.machine.specs.Sum.{RunsTasksSummed}
 use Rattle.machine.specs.Tasks.{TasksAfter, tasks_in}
-use Rattle.machine.specs.Laws.Clash.{never}
+use Rattle.machine.proofs.Laws.Clash.{never}
 use Rattle.machine.specs.declared.Tasks.{Tasks}
 use Rattle.state.specs.Layout as layout
 use Rattle.state.specs.Lent.{Lent}

@@ -1,5 +1,7 @@
 // A run of four tasks for hosts in other languages that hold them as bytes. It stands apart from the run of one machine, so that
 // each exported function has the run compiled into it.
+#![tactic(auto)]
+
 ghost use Rattle.std.specs.Prelude.{◌≡◌, ◌≤◌};
 ghost use Rattle.machine.specs.Limits.{most_budget};
 ghost use Rattle.tasks.specs.Handed.{HandsTasks};
@@ -20,8 +22,7 @@ fn narrowed(number: u64, most: u32) -> u32
 
 // Runs four tasks that a host holds as bytes, with the sum of their memory, and hands all back, the sum in the result. Both buffers of its own are measured first,
 // so that a call that answers 2 touches nothing.
-#[unsafe(no_mangle)]
-pub extern "C" fn glidecotton_run_tasks(
+pub fn glidecotton_run_tasks(
     tasks: &mut [u8],
     memory: &mut [u8],
     quantum: u64,
@@ -29,7 +30,7 @@ pub extern "C" fn glidecotton_run_tasks(
     sum: u64,
     res: &mut [u8],
 ) -> u64
-    ensures* { λ r. ⌜ HandsTasks tasks.old memory.old quantum budget sum res.old (record { number = r; state = tasks.new; memory = memory.new; result = res.new }) ⌝ }
+    ensures { let answer = result in HandsTasks tasks.old memory.old quantum budget sum res.old (record { number = answer; state = tasks.new; memory = memory.new; result = res.new }) }
 {
     if res.len() != state::RESULT {
         return 2;
@@ -42,9 +43,9 @@ pub extern "C" fn glidecotton_run_tasks(
     let four = taken.tasks;
     let steps = narrowed(quantum, Tasks::QUANTUM);
     let most = narrowed(budget, Machine::BUDGET);
+    let mut after = four;
     let mut kept = sum;
-    let ran = turns::run_tasks(memory, four, steps, most, &mut kept);
-    let after = ran.tasks;
+    let ran = turns::run_tasks_in(memory, &mut after, steps, most, &mut kept);
     let counted = ran.steps;
     let cycles = ran.cycles;
     state::give_tasks(after, tasks);

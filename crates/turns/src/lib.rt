@@ -1,4 +1,5 @@
 // The run of four tasks, in turns, proved to be what the machine's definition says.
+#![tactic(auto)]
 
 mod ticks;
 mod turns;
@@ -7,7 +8,14 @@ ghost use Rattle.machine.specs.Sum.{RunsTasksSummed};
 ghost use Rattle.machine.specs.Tasks.{tasks_in, tasks_after_of};
 
 use machine::{Cycles, RanTasks, Steps, Tasks};
-use run_entry::formed;
+
+// What a run counts beside what it leaves.
+#[derive(Clone, Copy)]
+pub struct Counted {
+    pub answer: u32,
+    pub steps: Steps,
+    pub cycles: Cycles,
+}
 
 // Runs four tasks on a lent memory of any length, in turns of at most a quantum of steps, under a budget of any number of steps
 // for all of them, with a lent memory sum that serves all. Memory of another length than 32,768, a budget above 1,000,000, a quantum that
@@ -16,8 +24,23 @@ use run_entry::formed;
 pub fn run_tasks(mem: &mut [u8], tasks: Tasks, quantum: u32, budget: u32, sum: &mut u64) -> RanTasks
     ensures { RunsTasksSummed mem.old (tasks_in tasks) quantum budget sum.old (tasks_after_of mem.new result) sum.new }
 {
-    if formed::tasks_acceptable(mem.len(), tasks, quantum, budget, *sum) {
+    let mut left = tasks;
+    let counted = run_tasks_in(mem, &mut left, quantum, budget, sum);
+    turns::ended(counted.answer, counted.steps, counted.cycles, left)
+}
+
+// The same for tasks that are lent: what the run leaves stands where they stood.
+pub fn run_tasks_in(
+    mem: &mut [u8],
+    tasks: &mut Tasks,
+    quantum: u32,
+    budget: u32,
+    sum: &mut u64,
+) -> Counted
+    ensures { RunsTasksSummed mem.old (tasks_in tasks.old) quantum budget sum.old (tasks_after_of mem.new (record { answer = result.answer; steps = result.steps; cycles = result.cycles; tasks = tasks.new })) sum.new }
+{
+    if turns::acceptable(mem.len(), tasks, quantum, budget, *sum) {
         return turns::turns(mem, tasks, quantum, budget, sum);
     }
-    turns::ended(2, Steps(0), Cycles(0), tasks)
+    turns::refused()
 }

@@ -1,19 +1,22 @@
 // A run of tasks: the next ready task has its turn, and then the next.
-ghost use Rattle.std.specs.Prelude.{◌≡◌, true, ◌<◌, ◌≤◌};
+ghost use Rattle.std.specs.Prelude.{◌≡◌, true, ◌<◌, ◌≤◌, List, ℕ, leb};
+ghost use Rattle.std.proofs.Math.ListN as list;
+ghost use Rattle.plain.specs.Choice.{both};
 ghost use Rattle.machine.specs.Limits.{most_sum, tasks_count};
-ghost use Rattle.machine.specs.Sum.{sum_after};
+ghost use Rattle.machine.specs.Sum.{sum_after, sum_of};
 ghost use Rattle.machine.specs.Reach.{task};
 ghost use Rattle.machine.specs.Tasks.{start_of, tasks_acceptable, tasks_in, tasks_after_of, TurnsFrom, AllWhole};
 ghost use Rattle.run_words.specs.Promises.{Bounded};
 ghost use Rattle.run_words.specs.Clocks.{ran_tasks_of, LinedTask};
+ghost use Rattle.run_words.specs.Levels.{machines_in, losses_in, AllLaid, HeedsSame, Seats};
 
-use crate::ticks;
+use crate::{Counted, ticks};
 use machine::{CYCLES, Cycles, Machine, RanTasks, Reach, Steps, Tasks};
 use order::Next;
-use run_entry::served;
+use run_entry::{formed, served};
 use run_levels::{linked, parts, sums, taskrows};
 use run_loop::round;
-use run_words::Clock;
+use run_words::{Clock, Pointers};
 
 // Task t may touch the shared bytes and its own part.
 fn reach_of(t: usize) -> Reach
@@ -49,24 +52,76 @@ pub(crate) fn ended(answer: u32, steps: Steps, cycles: Cycles, tasks: Tasks) -> 
     }
 }
 
+pub(crate) fn refused() -> Counted
+    ensures { result ≡ record { answer = 2; steps = record { 0 = 0 }; cycles = record { 0 = 0 } } }
+{
+    Counted {
+        answer: 2,
+        steps: Steps(0),
+        cycles: Cycles(0),
+    }
+}
+
+fn acceptable_four(length: usize, four: Tasks, quantum: u32, budget: u32, sum: u64) -> bool
+    ensures { (((mem : List ℕ) → list.length mem ≡ length → result ≡ both (leb sum most_sum) (tasks_acceptable mem (tasks_in four) quantum budget)) × (result ≡ true → AllWhole (tasks_in four))) × ((list.length four.machines ≡ tasks_count) × (list.length four.kept ≡ tasks_count)) }
+{
+    formed::tasks_acceptable(length, four, quantum, budget, sum)
+}
+
+// The tasks are the caller's own, and what copies of them the compiler makes stand in functions of their own: while they run there are no
+// second four on the stack (docs/DECISIONS.md).
+pub(crate) fn acceptable(length: usize, four: &Tasks, quantum: u32, budget: u32, sum: u64) -> bool
+    ensures { (((mem : List ℕ) → list.length mem ≡ length → result ≡ both (leb sum most_sum) (tasks_acceptable mem (tasks_in four.now) quantum budget)) × (result ≡ true → AllWhole (tasks_in four.now))) × ((list.length four.now.machines ≡ tasks_count) × (list.length four.now.kept ≡ tasks_count)) }
+{
+    acceptable_four(length, *four, quantum, budget, sum)
+}
+
+fn apart(
+    four: &Tasks,
+    cells: &mut [[u32; Machine::CELLS]; Tasks::COUNT],
+    returns: &mut [[u32; Machine::RETURNS]; Tasks::COUNT],
+    rows: &mut [[[u32; linked::ROW]; linked::ROWS]; Tasks::COUNT],
+    copies: &mut [[usize; linked::COPIES]; Tasks::COUNT],
+) -> [Pointers; Tasks::COUNT]
+    requires { ((list.length cells.old ≡ tasks_count) × (list.length returns.old ≡ tasks_count)) × AllLaid rows.old copies.old }
+    ensures { Seats cells.new returns.new rows.new copies.new result × ((machines_in cells.new returns.new rows.new copies.new result ≡ four.now.machines) × ((sum_of (losses_in rows.new) ≡ sum_of (losses_in rows.old)) × HeedsSame rows.old rows.new)) }
+{
+    taskrows::apart(four.machines, cells, returns, rows, copies)
+}
+
+fn put_back(
+    four: &mut Tasks,
+    cells: &[[u32; Machine::CELLS]; Tasks::COUNT],
+    returns: &[[u32; Machine::RETURNS]; Tasks::COUNT],
+    rows: &[[[u32; linked::ROW]; linked::ROWS]; Tasks::COUNT],
+    copies: &[[usize; linked::COPIES]; Tasks::COUNT],
+    saved: [Pointers; Tasks::COUNT],
+    kept: [usize; Tasks::COUNT],
+)
+    requires { AllLaid rows.now copies.now }
+    ensures { four.new ≡ record { machines = machines_in cells.now returns.now rows.now copies.now saved; kept = kept } }
+{
+    four.machines = taskrows::whole(cells, returns, rows, copies, saved);
+    four.kept = kept;
+}
+
 pub(crate) fn turns(
     mem: &mut [u8],
-    tasks: Tasks,
+    tasks: &mut Tasks,
     quantum: u32,
     budget: u32,
     sum: &mut u64,
-) -> RanTasks
-    requires { (tasks_acceptable mem.old (tasks_in tasks) quantum budget ≡ true) × (AllWhole (tasks_in tasks) × (sum.old ≤ most_sum)) }
-    ensures { TurnsFrom quantum (start_of mem.old (tasks_in tasks) budget) (tasks_after_of mem.new result) × (sum.new ≡ sum_after sum.old mem.old mem.new) }
+) -> Counted
+    requires { ((tasks_acceptable mem.old (tasks_in tasks.old) quantum budget ≡ true) × (AllWhole (tasks_in tasks.old) × (sum.old ≤ most_sum))) × ((list.length tasks.old.machines ≡ tasks_count) × (list.length tasks.old.kept ≡ tasks_count)) }
+    ensures { TurnsFrom quantum (start_of mem.old (tasks_in tasks.old) budget) (tasks_after_of mem.new (ran_tasks_of result.answer result.steps result.cycles tasks.new)) × (sum.new ≡ sum_after sum.old mem.old mem.new) }
 {
     let costs = CYCLES;
-    let before = tasks.machines;
     let mut kept = tasks.kept;
     let mut cells = [[0u32; Machine::CELLS]; Tasks::COUNT];
     let mut returns = [[0u32; Machine::RETURNS]; Tasks::COUNT];
     let mut rows = [[[0u32; linked::ROW]; linked::ROWS]; Tasks::COUNT];
     let mut copies = [[0usize; linked::COPIES]; Tasks::COUNT];
-    let mut saved = taskrows::apart(before, &mut cells, &mut returns, &mut rows, &mut copies);
+    let mut saved = apart(tasks, &mut cells, &mut returns, &mut rows, &mut copies);
     let mut clock = Clock {
         from: 0,
         left: Steps(budget),
@@ -117,8 +172,10 @@ pub(crate) fn turns(
         next = order::next_ready(&kept, clock.from);
     }
     *sum = sums::less(*sum, sums::lost_by_all(&rows));
-    let machines = taskrows::whole(&cells, &returns, &rows, &copies, saved);
-    let cycles = clock.cycles;
-    let left = Tasks { machines, kept };
-    ended(clock.answer, Steps(budget - clock.unspent.0), cycles, left)
+    put_back(tasks, &cells, &returns, &rows, &copies, saved, kept);
+    Counted {
+        answer: clock.answer,
+        steps: Steps(budget - clock.unspent.0),
+        cycles: clock.cycles,
+    }
 }

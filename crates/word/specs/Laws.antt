@@ -4,10 +4,6 @@ pub mod Tests
 pub mod Bounds
 -- two outcomes that say the same are the same
 pub mod Outcomes
--- the flag moves by the operations that are named, and stays 0 or 1
-pub mod Flag
--- every cell that is left is below 2 ^ 32
-pub mod Fits
 -- no second answer
 pub mod Only
 -- integers, and cells as a sign and a size

@@ -7,6 +7,7 @@ use crate::{
     Changed, OneCell, Outcome, TwoCells, bits, compare, products, quotients, shifts, sums,
 };
 
+#[tactic(auto, unfolding(crate::specs::Dispatch::one_cell_of))]
 pub fn one_cell(op: OneCell, x: u32, flag: u32) -> Changed
     ensures { result ≡ one_cell_of op x flag }
 {
@@ -27,6 +28,7 @@ pub fn one_cell(op: OneCell, x: u32, flag: u32) -> Changed
     }
 }
 
+#[tactic(auto, unfolding(crate::specs::Dispatch::two_cells_of))]
 pub fn two_cells(op: TwoCells, x: u32, y: u32, flag: u32) -> Outcome
     ensures { says_outcome result ≡ says_outcome (two_cells_of op x y flag) }
 {

@@ -4,7 +4,7 @@
 use std::convert::Infallible;
 use std::fs;
 use std::path::Path;
-use std::process::ExitCode;
+use std::process::{Command, ExitCode};
 
 use glidecotton_rust::arguments::{refuse, Arguments};
 use glidecotton_rust::boundary::{promise, promise_of_tasks, STAND_IN};
@@ -22,7 +22,7 @@ use glidecotton_rust::random::Random;
 use glidecotton_rust::task_chains::any_tasks;
 
 const FOLDERS: [&str; 2] = ["../sheet", "../samples"];
-/// Where each library has its frames beside it.
+/// Where the libraries are.
 const LIBRARIES: &str = "../target/staticlib";
 /// The folders have at least so many images.
 const LEAST_WRITTEN: u64 = 350;
@@ -135,9 +135,14 @@ fn measured(plan: &Plan) -> Result<Vec<String>, String> {
 
 /// The frames of a library, which must have this function that it exports.
 fn frames_of(library: &str, exported: &str) -> Result<Vec<Frame>, String> {
-    let file = format!("{LIBRARIES}/lib{library}.su");
-    let text = fs::read_to_string(&file).map_err(|error| format!("{file}: {error}"))?;
-    let frames = frames(&text).map_err(|why| format!("{file}: {why}"))?;
+    let file = format!("{LIBRARIES}/lib{library}.a");
+    let mut objdump = Command::new("objdump");
+    let printed = objdump.args(["-d", "--no-show-raw-insn", &file]).env("LC_ALL", "C").output();
+    let printed = printed.map_err(|error| format!("objdump: {error}"))?;
+    if !printed.status.success() {
+        return Err(format!("objdump {file}: {}", String::from_utf8_lossy(&printed.stderr)));
+    }
+    let frames = frames(&String::from_utf8_lossy(&printed.stdout)).map_err(|why| format!("{file}: {why}"))?;
     match frames.iter().any(|frame| frame.function == exported) {
         true => Ok(frames),
         false => Err(format!("{file} has no frame of {exported}")),

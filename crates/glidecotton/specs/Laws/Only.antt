@@ -4,7 +4,7 @@ use Rattle.std.proofs.Common.{sym, ap, ◌∙◌}
 use Rattle.numbers.specs.Laws.Bytes.{Bytes}
 use Rattle.image.specs.Loading.{Reading}
 use Rattle.image.specs.Laws.Only.{only-reading}
-use Rattle.image.specs.Laws.Computed.{read_of, computed}
+use Rattle.image.proofs.Laws.Computed.{read_of, computed}
 use Rattle.report.specs.Printing.{says_printed}
 use Rattle.report.specs.Laws.Only.{same-printed}
 use Rattle.report.specs.declared.Printed.{Printed}

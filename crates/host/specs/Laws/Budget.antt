@@ -6,7 +6,7 @@ use Rattle.plain.specs.Choice.{pick}
 use Rattle.machine.specs.Limits.{most_budget, most_sum}
 use Rattle.machine.specs.Run.{After, ended, run_of}
 use Rattle.machine.specs.Sum.{sum_after, Summed, run_summed}
-use Rattle.machine.specs.Laws.Summed.{too_large}
+use Rattle.machine.proofs.Laws.Summed.{too_large}
 use Rattle.machine.specs.declared.Machine.{Machine}
 
 -- the nearest number that is refused or is the budget itself

@@ -5,7 +5,7 @@ use Rattle.std.proofs.Common.{ap}
 use Rattle.numbers.specs.Lists.{bytes_of_list}
 use Rattle.machine.specs.Limits.{memory_length}
 use Rattle.machine.specs.Sum.{sum_of}
-use Rattle.machine.specs.Laws.Sum.{sum-padded}
+use Rattle.machine.proofs.Laws.Sum.{sum-padded}
 use Rattle.image.specs.Format.{Image, section_of, budget_of, spelled}
 use Rattle.image.specs.Loading.{loaded_from}
 

@@ -6,7 +6,7 @@ use Rattle.numbers.specs.Lists.{AllBelow}
 use Rattle.machine.specs.Fits.{AllBytes}
 use Rattle.machine.specs.Limits.{memory_length, most_sum}
 use Rattle.machine.specs.Sum.{sum_of}
-use Rattle.machine.specs.Laws.Sum.{sum-most, sum-padded}
+use Rattle.machine.proofs.Laws.Sum.{sum-most, sum-padded}
 use Rattle.image.specs.Loading.{Returned, Read, wrong-memory, not-spelled, read, loaded_from, refused_with}
 
 pub sum-filled : (file before after : List ℕ) (h : Returned) → Read file before after h → h.says ≡ gives tt → h.sum ≡ sum_of after

@@ -1,5 +1,5 @@
 -- A host that raises a line or sets the mask leaves a well-formed machine well formed.
-use Rattle.std.specs.Prelude.{Bool, true, ◌≡◌, ℕ, suc, ◌^◌, ◌≤◌, ◌<◌, leb}
+use Rattle.std.specs.Prelude.{Bool, true, ◌≡◌, ℕ, zero, suc, ◌^◌, ◌≤◌, ◌<◌, leb}
 use Rattle.std.proofs.Math.Path.{sym, ap}
 use Rattle.std.proofs.Common.{subst, ◌∙◌, arith, leb-true}
 use Rattle.std.proofs.Math.Dec.{T}
@@ -9,7 +9,7 @@ use Rattle.links.specs.Depths.{cells_depth}
 use Rattle.links.specs.Linked.{linked}
 use Rattle.machine.specs.Lines.{lines_formed, raised}
 use Rattle.machine.specs.State.{well_formed}
-use Rattle.machine.specs.Laws.Lines.{LinesFormed, lines-formed, lines-formed-true}
+use Rattle.machine.proofs.Laws.Lines.{LinesFormed, lines-formed, lines-formed-true}
 use Rattle.machine.specs.declared.Lines.{Lines}
 use Rattle.machine.specs.declared.Machine.{Machine}
 use Rattle.requests.specs.Requests.{is_line}
@@ -39,6 +39,7 @@ module _ (m : Machine) (formed : well_formed m ≡ true) where
       formed-with (with_waiting (raised n m.lines.waiting) m).lines (go n (leb-true 1 n within.0) (leb-true n 15 within.1))
     where
       go : (k : ℕ) → 1 ≤ k → k ≤ 15 → LinesFormed (with_waiting (raised k m.lines.waiting) m).lines
+      go zero some below = elim some [ ]
       go (suc k) some below =
           record {
             mask-within = its-lines.mask-within;

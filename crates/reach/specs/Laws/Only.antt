@@ -2,7 +2,7 @@
 use Rattle.std.specs.Prelude.{Bool, true, false, ◌≡◌, refl, ℕ, ◌+◌, ◌*◌, ◌%◌}
 use Rattle.std.proofs.Common.{sym, ap, ◌∙◌, arith, eq-eqb}
 use Rattle.links.specs.Depths.{locals_count}
-use Rattle.machine.specs.Laws.Clash.{clash}
+use Rattle.machine.proofs.Laws.Clash.{clash}
 use Rattle.machine.specs.Memory.{size}
 use Rattle.machine.specs.Reach.{bar_of, is_foreign}
 use Rattle.machine.specs.declared.Reach.{Reach}

@@ -5,7 +5,7 @@ use Rattle.std.proofs.lemmas.List.{get_or-replicate}
 use Rattle.plain.specs.All.{All}
 use Rattle.plain.specs.Laws.All.{all_replicate, all_take}
 use Rattle.links.specs.Actions.{no_locals}
-use Rattle.links.specs.Depths.{frames_count, levels_count, locals_count, level_cells}
+use Rattle.links.specs.Depths.{frames_count, locals_count, level_cells}
 use Rattle.links.specs.Fits.{CellFits}
 use Rattle.links.specs.Fresh.{fresh_frame, fresh_level, fresh_links}
 use Rattle.links.specs.declared.Frame.{Frame}

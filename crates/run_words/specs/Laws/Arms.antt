@@ -1,5 +1,5 @@
 -- The arms of a round: what each instruction on the linked stacks, the memory and the cells in view does, by what its check answers.
-use Rattle.std.specs.Prelude.{◌≡◌, Bool, true, false, List, ◌⊎◌, ℕ, suc, ◌+◌, ◌-◌, ◌%◌, ◌^◌, ◌≤◌, ltb, leb, eqb, get_or, set, take, drop}
+use Rattle.std.specs.Prelude.{◌≡◌, Bool, true, false, List, ℕ, suc, ◌+◌, ◌-◌, ◌%◌, ◌^◌, ◌≤◌, ltb, leb, eqb, get_or, set, take, drop}
 use Rattle.std.proofs.Math.Path.{refl, subst⁻¹}
 use Rattle.std.proofs.Common.{ap, sym, ◌∙◌, subst, inl, inr}
 use native.Mathlib.Omega.{arith}
@@ -22,7 +22,7 @@ use Rattle.machine.specs.Memory.{size, place_of}
 use Rattle.machine.specs.View.{bytes_of_cells, overwritten}
 use Rattle.machine.specs.Rows.{nothing, a_return_cell, a_place, a_divisor, a_routine, Lack-discrete, row_of}
 use Rattle.machine.specs.Step.{Stepped, refused, done, cost_of, carried}
-use Rattle.machine.specs.Laws.Prices.{by_code}
+use Rattle.machine.proofs.Laws.Prices.{by_code}
 use Rattle.machine.specs.declared.Machine.{Machine}
 use Rattle.machine.specs.declared.Reach.{Reach}
 use Rattle.machine.specs.declared.Width.{Width}

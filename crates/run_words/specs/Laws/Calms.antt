@@ -1,12 +1,11 @@
 -- Where none can enter, the machine stays as it is.
-use Rattle.std.specs.Prelude.{◌≡◌, refl, Bool, true, false, ◌⊎◌, ℕ, ◌≤◌, T, ltb, eqb}
+use Rattle.std.specs.Prelude.{◌≡◌, refl, Bool, true, false, ℕ, ◌≤◌, T, ltb, eqb}
 use Rattle.std.proofs.Common.{ap, sym, ◌∙◌, subst, inl, inr, arith, ne_eqb, eqb-true, le-ltb, ltb-false}
-use Rattle.std.proofs.Math.Path.{subst⁻¹}
 use Rattle.std.proofs.lemmas.Bool.{eqb-false}
 use Rattle.plain.specs.Choice.{pick, both}
 use Rattle.links.specs.Depths.{returns_depth, subroutines_depth}
-use Rattle.machine.specs.Lines.{Line, none, line, lowest_due, entering, let_in, after_line}
-use Rattle.machine.specs.Laws.Entered.{none-while-quiet}
+use Rattle.machine.specs.Lines.{Line, none, lowest_due, entering, let_in, after_line}
+use Rattle.machine.proofs.Laws.Entered.{none-while-quiet}
 use Rattle.machine.specs.declared.Lines.{Lines}
 use Rattle.machine.specs.declared.Machine.{Machine}
 use Rattle.requests.specs.Requests.{entering_with}

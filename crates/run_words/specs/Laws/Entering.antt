@@ -1,22 +1,20 @@
 -- A line that enters a machine in its arrays.
-use Rattle.std.specs.Prelude.{◌≡◌, refl, Bool, true, false, set}
+use Rattle.std.specs.Prelude.{◌≡◌, refl, true, set}
 use Rattle.std.proofs.Math.Path.{ap, sym, subst⁻¹}
-use Rattle.std.proofs.Common.{◌∙◌, subst, arith}
+use Rattle.std.proofs.Common.{◌∙◌, arith}
 use mathlib.Core.List.{List, []}
-use Prim.Native.Nat.{ℕ, suc, ◌+◌, ◌*◌, ◌≤◌, ◌<◌}
+use Prim.Native.Nat.{ℕ, ◌+◌, ◌*◌}
 use Rattle.std.proofs.Math.Numerals.{add-one}
 use Rattle.links.specs.Actions.{called_frame}
-use Rattle.links.specs.Depths.{returns_depth, subroutines_depth}
 use Rattle.links.specs.declared.Frame.{Frame}
 use Rattle.links.specs.declared.Level.{Level}
-use Rattle.machine.specs.Lines.{Line, none, line, lowest_due, entering, serving, entered_by, after_line, let_in}
-use Rattle.machine.specs.Laws.Clash.{never}
-use Rattle.machine.specs.Laws.Lines.{Enters, enters}
+use Rattle.machine.specs.Lines.{Line, none, line, lowest_due, entering, serving, after_line, let_in}
+use Rattle.machine.proofs.Laws.Clash.{never}
+use Rattle.machine.proofs.Laws.Lines.{Enters, enters}
 use Rattle.machine.specs.declared.Lines.{Lines}
 use Rattle.machine.specs.declared.Machine.{Machine}
-use Rattle.requests.specs.Requests.{says_due, entering_with}
-use Rattle.requests.specs.declared.Due.{Due}
-use Rattle.run_words.specs.Calm.{Calm, blocked}
+use Rattle.requests.specs.Requests.{entering_with}
+use Rattle.run_words.specs.Calm.{blocked}
 use Rattle.run_words.specs.Entries.{LetsIn}
 use Rattle.run_words.specs.Levels.{frames_in, levels_in, note_in, in_rows, Laid, Hold}
 use Rattle.run_words.specs.Machines.{links_of}

@@ -21,8 +21,8 @@ use Rattle.machine.specs.declared.RanTasks.{RanTasks}
 use Rattle.run_words.specs.Machines.{ran_of}
 use Rattle.run_words.specs.Clocks.{ran_tasks_of}
 use Rattle.machine.specs.State.{fresh_with}
-use Rattle.machine.specs.Laws.Pairs.{paired-length}
-use Rattle.machine.specs.Laws.Sum.{sum-stays}
+use Rattle.machine.proofs.Laws.Pairs.{paired-length}
+use Rattle.machine.proofs.Laws.Sum.{sum-stays}
 
 module _ (mem : List ℕ) (m : Machine) (budget : ℕ) where
   pub wrong-length : (length mem ≡ memory_length → ⊥) → acceptable mem m budget ≡ false

@@ -13,8 +13,8 @@ use Rattle.machine.specs.Limits.{memory_length}
 use Rattle.machine.specs.Reach.{Bar, none, outside, foreign, may_touch, bar_of, is_foreign}
 use Rattle.machine.specs.Codes.{Operand, offset, bytes_with, entry_beq, entry_bra, entry_at}
 use Rattle.machine.specs.Fetch.{instruction_at, operand_at}
-use Rattle.machine.specs.Laws.Bars.{shared-free, first-barred, inside-free, cut_off}
-use Rattle.machine.specs.Laws.Lengths.{a_byte, five-bytes}
+use Rattle.machine.proofs.Laws.Bars.{shared-free, first-barred, inside-free, cut_off}
+use Rattle.machine.proofs.Laws.Lengths.{a_byte, five-bytes}
 use Rattle.machine.specs.declared.Reach.{Reach}
 use Rattle.run_words.specs.Machines.{in_reach}
 use Rattle.run_words.specs.Promises.{Fetches}

@@ -12,9 +12,9 @@ use Rattle.machine.specs.Fetch.{instruction_at}
 use Rattle.machine.specs.Step.{Stepped, refused, done, step_of}
 use Rattle.machine.specs.Lines.{let_in}
 use Rattle.machine.specs.Run.{After, ended, passes, run_from, acceptable}
-use Rattle.machine.specs.Laws.Costs.{cost-bounded}
-use Rattle.machine.specs.Laws.Kept.{Formed, formed, step_kept}
-use Rattle.machine.specs.Laws.Passed.{step-done}
+use Rattle.machine.proofs.Laws.Costs.{cost-bounded}
+use Rattle.machine.proofs.Laws.Kept.{Formed, formed, step_kept}
+use Rattle.machine.proofs.Laws.Passed.{step-done}
 use Rattle.machine.specs.declared.Machine.{Machine}
 use Rattle.machine.specs.declared.Reach.{Reach}
 use Rattle.run_words.specs.Calm.{lines_enter, run_in}

@@ -11,7 +11,7 @@ use Rattle.numbers.specs.Laws.Bytes.{length-bytes}
 use Rattle.machine.specs.Limits.{tasks_count}
 use Rattle.machine.specs.Memory.{size}
 use Rattle.machine.specs.Sum.{sum_of, sum_after}
-use Rattle.machine.specs.Laws.Sum.{standing, sum-set, sum-sets}
+use Rattle.machine.proofs.Laws.Sum.{standing, sum-set, sum-sets}
 use Rattle.machine.specs.declared.Width.{Width}
 use Rattle.machine.specs.declared.Width.TheVariants.{Byte, Word, Long}
 use Rattle.run_words.specs.Levels.{tabulated, note_in, losses_in}

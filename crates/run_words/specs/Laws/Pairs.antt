@@ -5,7 +5,7 @@ use Rattle.std.proofs.Math.Path.{subst⁻¹}
 use Rattle.plain.specs.Choice.{pick, both}
 use Rattle.machine.specs.State.{Whole}
 use Rattle.machine.specs.Tasks.{Task, task_of, paired, no_machine, ready, is_ready, Whose, of_task, first_ready, task_good, all_good, AllWhole}
-use Rattle.machine.specs.Laws.Pairs.{paired_at}
+use Rattle.machine.proofs.Laws.Pairs.{paired_at}
 use Rattle.machine.specs.declared.Machine.{Machine}
 use Rattle.order.specs.Order.{first_kept}
 

@@ -1,12 +1,12 @@
 -- The registers parked between two stretches alter no level and no note.
-use Rattle.std.specs.Prelude.{◌≡◌, refl, Bool, false, List, [], ◌∷◌, ℕ, zero, suc, ◌+◌, ◌<◌, get_or, set, length}
+use Rattle.std.specs.Prelude.{◌≡◌, refl, Bool, List, [], ◌∷◌, ℕ, zero, suc, ◌+◌, ◌<◌, get_or, set, length}
 use Rattle.std.proofs.Common.{ap, sym, ◌∙◌, arith, length-set, get_or-set_same, get_or-set_other}
 use Rattle.std.proofs.lemmas.List.Edits.{sets}
 use Rattle.std.proofs.Math.Seq.{length-sets}
 use Rattle.links.specs.Depths.{frames_count, levels_count, locals_count}
 use Rattle.links.specs.declared.Frame.{Frame}
 use Rattle.links.specs.declared.Level.{Level}
-use Rattle.run_words.specs.Levels.{copies_room, note_row, frames_in, levels_in, note_in, parked_in, Laid, Hold, Parks}
+use Rattle.run_words.specs.Levels.{copies_room, note_row, note_in, parked_in, Laid, Hold, Parks}
 use Rattle.run_words.specs.Notes.{Note}
 use Rattle.run_words.specs.declared.Registers.{Registers}
 use Rattle.run_words.specs.Laws.Levels.{wide_at, note-there, behind, frames-same, levels-same}

@@ -6,7 +6,7 @@ use Rattle.plain.specs.Answer.{gives}
 use Rattle.plain.specs.Laws.Choice.{both-parts}
 use Rattle.machine.specs.Limits.{memory_length}
 use Rattle.machine.specs.Memory.{size, place_of}
-use Rattle.machine.specs.Laws.Bars.{shared-free}
+use Rattle.machine.proofs.Laws.Bars.{shared-free}
 use Rattle.machine.specs.declared.Reach.{Reach}
 use Rattle.machine.specs.declared.Width.{Width}
 use Rattle.machine.specs.declared.Width.TheVariants.{Byte, Word, Long}

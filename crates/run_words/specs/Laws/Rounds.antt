@@ -7,7 +7,7 @@ use Rattle.plain.specs.Choice.{both}
 use Rattle.numbers.specs.Bytes.{byte_at}
 use Rattle.links.specs.Depths.{cells_depth, returns_depth, subroutines_depth, exceptions_depth, most_copy_of_p}
 use Rattle.links.specs.Linked.{copy_of_s, copy_of_p}
-use Rattle.links.specs.Laws.Sound.{Sound, Rise, Within}
+use Rattle.links.proofs.Laws.Sound.{Sound, Rise, Within}
 use Rattle.links.specs.declared.Frame.{Frame}
 use Rattle.links.specs.declared.Level.{Level}
 use Rattle.links.specs.declared.Links.{Links}
@@ -18,9 +18,9 @@ use Rattle.machine.specs.Fetch.{instruction_at}
 use Rattle.machine.specs.Step.{Stepped, refused, done, carried, step_of}
 use Rattle.machine.specs.Lines.{let_in}
 use Rattle.machine.specs.Run.{ended, passes}
-use Rattle.machine.specs.Laws.Costs.{cost-bounded}
-use Rattle.machine.specs.Laws.Kept.{step_kept}
-use Rattle.machine.specs.Laws.Passed.{step-done}
+use Rattle.machine.proofs.Laws.Costs.{cost-bounded}
+use Rattle.machine.proofs.Laws.Kept.{step_kept}
+use Rattle.machine.proofs.Laws.Passed.{step-done}
 use Rattle.machine.specs.declared.Lines.{Lines}
 use Rattle.machine.specs.declared.Machine.{Machine}
 use Rattle.machine.specs.declared.Reach.{Reach}

@@ -1,26 +1,25 @@
 -- The loop of turns over arrays of four.
-use Rattle.std.specs.Prelude.{◌≡◌, refl, Bool, true, false, List, [], ◌⊎◌, ◌≢◌, ℕ, zero, suc, ◌+◌, ◌-◌, ◌*◌, ◌%◌, ◌≤◌, ◌<◌, T, eqb, length, get_or, set, replicate}
+use Rattle.std.specs.Prelude.{◌≡◌, refl, Bool, true, false, List, [], ◌⊎◌, ◌≢◌, ℕ, ◌+◌, ◌-◌, ◌*◌, ◌%◌, ◌≤◌, ◌<◌, T, eqb, length, get_or, set, replicate}
 use Rattle.std.proofs.Math.Path.{ap, subst⁻¹}
-use Rattle.std.proofs.Common.{sym, ◌∙◌, subst, inl, inr, arith, ne_eqb, eqb-true, eq-eqb, length-set, set-set, get_or-set_same}
+use Rattle.std.proofs.Common.{sym, ◌∙◌, subst, inl, inr, arith, ne_eqb, length-set, set-set, get_or-set_same}
 use Rattle.std.proofs.Math.Logic.{dite}
 use Rattle.std.proofs.Math.Decide.{ℕ_discrete}
-use Rattle.std.proofs.lemmas.Bool.{eqb-false}
 use Rattle.std.proofs.lemmas.List.{set-get_or}
 use Rattle.plain.specs.Choice.{pick}
 use Rattle.machine.specs.Codes.{cycle_table}
 use Rattle.machine.specs.Limits.{most_budget, tasks_count}
-use Rattle.machine.specs.Lines.{none, lowest_due, let_in}
+use Rattle.machine.specs.Lines.{lowest_due, let_in}
 use Rattle.machine.specs.Reach.{task}
-use Rattle.machine.specs.Run.{After, Manner, manner_of, after_of, run_from, acceptable}
+use Rattle.machine.specs.Run.{After, manner_of, after_of, run_from}
 use Rattle.machine.specs.State.{Whole}
 use Rattle.machine.specs.Sum.{sum_of}
-use Rattle.machine.specs.Tasks.{Task, paired, no_machine, task_at, ready, Whose, nobodys, of_task, in_order, following, Between, turn_length, as_task, start_of, TurnsFrom, tasks_after_of, can_keep, AllWhole, tasks_acceptable}
-use Rattle.machine.specs.Laws.Accepted.{accept}
-use Rattle.machine.specs.Laws.Costs.{run-bounded}
-use Rattle.machine.specs.Laws.Counted.{entered-before}
-use Rattle.machine.specs.Laws.Kept.{Formed, Good, let-in-good}
-use Rattle.machine.specs.Laws.Pairs.{paired_at}
-use Rattle.machine.specs.Laws.Turns.{turn-keeps, turn-steps, turn-good, turn-moves, to_go}
+use Rattle.machine.specs.Tasks.{Task, paired, no_machine, ready, Whose, nobodys, of_task, in_order, following, Between, turn_length, as_task, start_of, TurnsFrom, tasks_after_of, can_keep, AllWhole, tasks_acceptable}
+use Rattle.machine.proofs.Laws.Accepted.{accept}
+use Rattle.machine.proofs.Laws.Costs.{run-bounded}
+use Rattle.machine.proofs.Laws.Counted.{entered-before}
+use Rattle.machine.proofs.Laws.Kept.{Formed, Good, let-in-good}
+use Rattle.machine.proofs.Laws.Pairs.{paired_at}
+use Rattle.machine.proofs.Laws.Turns.{turn-keeps, turn-good, turn-moves, to_go}
 use Rattle.machine.specs.declared.Machine.{Machine}
 use Rattle.machine.specs.declared.Ran.{Ran}
 use Rattle.machine.specs.declared.RanTasks.{RanTasks}
@@ -30,11 +29,9 @@ use Rattle.run_words.specs.Calm.{lines_enter, manner_in, run_in, Quiet, Calm, qu
 use Rattle.run_words.specs.Clocks.{turned_to, idled_to, passed_to, rest_or, between, Closes}
 use Rattle.run_words.specs.Entries.{LetsIn}
 use Rattle.run_words.specs.Machines.{ran_of}
-use Rattle.run_words.specs.Notes.{Note}
 use Rattle.run_words.specs.Promises.{Bounded}
-use Rattle.run_words.specs.Registers.{machine_in}
 use Rattle.run_words.specs.Rounds.{Starts, Ends}
-use Rattle.run_words.specs.Levels.{frames_in, levels_in, note_in, pointers_in, no_pointers, in_rows, task_in, machines_in, losses_in, Laid, Seats}
+use Rattle.run_words.specs.Levels.{note_in, pointers_in, no_pointers, in_rows, task_in, machines_in, losses_in, Laid, Seats}
 use Rattle.run_words.specs.declared.Clock.{Clock}
 use Rattle.run_words.specs.declared.Pointers.{Pointers}
 use Rattle.run_words.specs.declared.Registers.{Registers}

@@ -18,7 +18,7 @@ use Rattle.links.specs.Linked.{no_frame, no_level}
 use Rattle.links.specs.declared.Frame.{Frame}
 use Rattle.links.specs.declared.Level.{Level}
 use Rattle.machine.specs.View.{bytes_of_cells, overwritten}
-use Rattle.machine.specs.Laws.CellBytes.{one_number, cell-number, cell-overwritten, one-by-cell, pair-number, pair-by-cells}
+use Rattle.machine.proofs.Laws.CellBytes.{one_number, cell-number, cell-overwritten, one-by-cell, pair-number, pair-by-cells}
 use Rattle.run_words.specs.Levels.{frames_in, levels_in, view_cells, seen_in, Laid, Keep}
 use Rattle.run_words.specs.Laws.Levels.{frames-long, levels-long, frame-there, level-there, wide_at, local-stored, cell-stored}
 

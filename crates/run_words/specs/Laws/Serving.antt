@@ -1,7 +1,7 @@
 -- The run that lines may enter: what holds between two stretches of the loop.
 use Rattle.std.specs.Prelude.{◌≡◌, refl, Bool, true, List, ℕ, ◌+◌, ◌-◌, ◌*◌, ◌%◌, ◌^◌, ◌≤◌, ◌<◌, T, length}
 use Rattle.std.proofs.Math.Path.{ap, sym, subst⁻¹}
-use Rattle.std.proofs.Common.{◌∙◌, subst, inl, inr}
+use Rattle.std.proofs.Common.{◌∙◌, subst, inr}
 use Rattle.std.proofs.Math.Bool.{false}
 use native.Mathlib.Omega.{arith}
 use Rattle.plain.specs.Choice.{pick}
@@ -10,13 +10,13 @@ use Rattle.links.specs.declared.Level.{Level}
 use Rattle.machine.specs.Codes.{cycle_table}
 use Rattle.machine.specs.Limits.{memory_length, most_budget}
 use Rattle.machine.specs.Lines.{none, lowest_due, let_in}
-use Rattle.machine.specs.Run.{After, ended, run_from, acceptable}
+use Rattle.machine.specs.Run.{ended, run_from, acceptable}
 use Rattle.machine.specs.State.{Whole}
 use Rattle.machine.specs.Sum.{sum_after}
-use Rattle.machine.specs.Laws.Accepted.{Taken, taken, accept}
+use Rattle.machine.proofs.Laws.Accepted.{taken, accept}
 use Rattle.machine.specs.Added.{added}
-use Rattle.machine.specs.Laws.Counted.{counted-on, counted-later, entered-before}
-use Rattle.machine.specs.Laws.Kept.{Formed, let-in-good}
+use Rattle.machine.proofs.Laws.Counted.{counted-on, counted-later, entered-before}
+use Rattle.machine.proofs.Laws.Kept.{Formed, let-in-good}
 use Rattle.machine.specs.declared.Machine.{Machine}
 use Rattle.machine.specs.declared.Reach.{Reach}
 use Rattle.machine.specs.declared.Steps.{Steps}
@@ -26,8 +26,8 @@ use Rattle.run_words.specs.Levels.{frames_in, levels_in, note_in, pointers_in, i
 use Rattle.run_words.specs.Notes.{Note, Aside}
 use Rattle.run_words.specs.Promises.{Bounded}
 use Rattle.run_words.specs.Machines.{links_of}
-use Rattle.run_words.specs.Registers.{machine_in, begun_at, tallied_to, joined_to}
-use Rattle.run_words.specs.Rounds.{Starts, Takes, Leaves, Ends, Served}
+use Rattle.run_words.specs.Registers.{begun_at, tallied_to, joined_to}
+use Rattle.run_words.specs.Rounds.{Starts, Ends, Served}
 use Rattle.run_words.specs.declared.Pointers.{Pointers}
 use Rattle.run_words.specs.declared.Registers.{Registers}
 use Rattle.run_words.specs.Laws.Losses.{nothing-lost, lost-later}

@@ -10,19 +10,19 @@ use Rattle.machine.specs.Limits.{memory_length, most_budget, most_quantum, tasks
 use Rattle.machine.specs.Reach.{task}
 use Rattle.machine.specs.Run.{After, after_of, run_from}
 use Rattle.machine.specs.Tasks.{Task, task_of, paired, no_machine, no_task, task_at, ready, is_ready, nobodys, of_task, in_order, next_ready, following, left_by, Between, turn_length, as_task, after_turn, TasksAfter, ended_at, TurnsFrom, spent, idle, turn, start_of, can_keep, AllWhole, tasks_acceptable}
-use Rattle.machine.specs.Laws.Clash.{never}
+use Rattle.machine.proofs.Laws.Clash.{never}
 use Rattle.machine.specs.Added.{added}
-use Rattle.machine.specs.Laws.Counted.{counted-on}
-use Rattle.machine.specs.Laws.Kept.{Good}
-use Rattle.machine.specs.Laws.TasksTaken.{taken}
-use Rattle.machine.specs.Laws.Circular.{next-ready}
-use Rattle.machine.specs.Laws.Turns.{GoodTask, good-tasks, turn-within, turn-length, to_go, less-to-go}
+use Rattle.machine.proofs.Laws.Counted.{counted-on}
+use Rattle.machine.proofs.Laws.Kept.{Good}
+use Rattle.machine.proofs.Laws.TasksTaken.{taken}
+use Rattle.machine.proofs.Laws.Circular.{next-ready}
+use Rattle.machine.proofs.Laws.Turns.{GoodTask, good-tasks, turn-within, turn-length, to_go, less-to-go}
 use Rattle.machine.specs.declared.Machine.{Machine}
 use Rattle.machine.specs.declared.Ran.{Ran}
 use Rattle.order.specs.Order.{first_kept}
 use Rattle.run_words.specs.Clocks.{turned_to, idled_to, rest_or, between}
 use Rattle.run_words.specs.declared.Clock.{Clock}
-use Rattle.machine.specs.Laws.Pairs.{paired-set, paired-length, paired_at}
+use Rattle.machine.proofs.Laws.Pairs.{paired-set, paired-length, paired_at}
 use Rattle.run_words.specs.Laws.Pairs.{first-kept}
 
 -- what the run is, once it is over

@@ -3,7 +3,7 @@ use Rattle.std.specs.Prelude.{List, ◌≡◌, refl, ℕ, length}
 use Rattle.std.proofs.Common.{sym, ◌∙◌}
 use Rattle.plain.specs.Answer.{Answer, gives}
 use Rattle.machine.specs.declared.Machine.{Machine}
-use Rattle.machine.specs.Laws.Pairs.{only-tasks-in}
+use Rattle.machine.proofs.Laws.Pairs.{only-tasks-in}
 use Rattle.machine.specs.declared.Tasks.{Tasks}
 use Rattle.machine.specs.Tasks.{Four, tasks_in}
 use Rattle.state.specs.Parts.{Part}
@@ -71,6 +71,11 @@ module _ {A : Type 0} (part : Part A) (x : A) (before : List ℕ) where
       let same = only-gives (says_verdict v) (says_verdict w) after other h k in
       (only-verdict v w same.0, same.1)
 
+  given-bytes : (bytes : List ℕ) (a : Answer (Unit {0})) (after : List ℕ) → length before ≡ part.width → part.bytes x ≡ bytes → Gives part x before a after
+      → after ≡ bytes
+  given-bytes bytes a after long is (wrong_size h) = absurd (h long)
+  given-bytes bytes a after long is (filled same fits) = is
+
 -- the bytes that a machine was given as are taken as that machine
 pub taken_back : (m n : Machine) (before after : List ℕ) (a b : Answer (Unit {0})) → length before ≡ state.width → Gives state m before a after → Takes after b n
     → (b ≡ gives tt) × (n ≡ m)
@@ -82,8 +87,7 @@ taken_back m n before after a b long (filled also fit) t =
 -- and the bytes that a machine was taken from are given back as they were
 pub given_back : (bytes before after : List ℕ) (m : Machine) (a : Answer (Unit {0})) → length before ≡ state.width → Takes bytes (gives tt) m → Gives state m before a after
     → after ≡ bytes
-given_back bytes before after m a long (spelled _ also fit is) (wrong_size h) = absurd (h long)
-given_back bytes before after m a long (spelled _ also fit is) (filled same fits) = is
+given_back bytes before after m a long (spelled _ also fit is) g = given-bytes state m before bytes a after long is g
 
 -- so it is with tasks
 pub tasks-taken-back : (t u : Tasks) (before after : List ℕ) (a b : Answer (Unit {0})) → Four t → length before ≡ tasks.width
@@ -95,5 +99,4 @@ tasks-taken-back t u before after a b four long (filled also fit) k =
 
 pub tasks-given-back : (bytes before after : List ℕ) (t : Tasks) (a : Answer (Unit {0})) → length before ≡ tasks.width → TakesTasks bytes (gives tt) t
     → Gives tasks (tasks_in t) before a after → after ≡ bytes
-tasks-given-back bytes before after t a long (spelled-tasks _ also four fit is) (wrong_size h) = absurd (h long)
-tasks-given-back bytes before after t a long (spelled-tasks _ also four fit is) (filled same fits) = is
+tasks-given-back bytes before after t a long (spelled-tasks _ also four fit is) g = given-bytes tasks (tasks_in t) before bytes a after long is g

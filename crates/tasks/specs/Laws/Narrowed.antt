@@ -5,8 +5,8 @@ use Rattle.plain.specs.Choice.{pick}
 use Rattle.machine.specs.Limits.{most_budget, most_quantum}
 use Rattle.machine.specs.Tasks.{Task, TasksAfter, tasks_acceptable, RunsTasks, declined, ran}
 use Rattle.machine.specs.Sum.{RunsTasksSummed, sum-declined, sum-taken}
-use Rattle.machine.specs.Laws.Clash.{clash}
-use Rattle.machine.specs.Laws.TasksTaken.{taken}
+use Rattle.machine.proofs.Laws.Clash.{clash}
+use Rattle.machine.proofs.Laws.TasksTaken.{taken}
 
 -- the nearest number that is above the limit, or the number itself
 abbrev pub narrowed_to : ℕ → ℕ → ℕ
@@ -47,6 +47,6 @@ module _ (mem : List ℕ) (tasks : List Task) (quantum budget : ℕ) where
       subst (λ (n : ℕ). RunsTasks mem tasks quantum n end) (narrowed-same most_budget budget t.limit)
       (subst (λ (n : ℕ). RunsTasks mem tasks n b end) (narrowed-same most_quantum quantum t.most) (ran ok turns))
 
-  pub same-run : {sum left : ℕ} {end : TasksAfter} → RunsTasksSummed mem tasks q b sum end left → RunsTasksSummed mem tasks quantum budget sum end left
+  pub same-run : {sum : ℕ} {end : TasksAfter} {left : ℕ} → RunsTasksSummed mem tasks q b sum end left → RunsTasksSummed mem tasks quantum budget sum end left
   same-run (sum-declined above) = sum-declined above
   same-run (sum-taken within runs) = sum-taken within (same_end runs)

@@ -3,7 +3,7 @@ use Rattle.std.specs.Prelude.{List, ◌≡◌, refl, ℕ}
 use Rattle.std.proofs.Common.{sym, subst, ◌∙◌}
 use Rattle.machine.specs.Tasks.{Task}
 use Rattle.machine.specs.Sum.{RunsTasksSummed}
-use Rattle.machine.specs.Laws.Summed.{only-summed}
+use Rattle.machine.proofs.Laws.Summed.{only-summed}
 use Rattle.state.specs.Laws.Spelling.{tasks-sound}
 use Rattle.state.specs.Lent.{Lent}
 use Rattle.tasks.specs.Handed.{HandsTasks, wrong-length, run, handed_back}

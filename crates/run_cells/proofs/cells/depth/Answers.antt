@@ -1,0 +1,8 @@
+-- P itself is pushed.
+use native.Mathlib.Omega.{arith}
+use Rattle.run_words.specs.Laws.Pushes.{depth-pushed}
+use borrow.Author.Rules.{rules}
+use Rattle.run_cells.proofs.cells.depth.Goals as goal
+
+pub returns : goal.returns
+returns c = rw (c.push.ensures.0, c.push.ensures.1) (λ operand. depth-pushed operand c.args.next c.args.cells.now c.args.p c.args.flag (omega arith))
