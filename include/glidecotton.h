@@ -32,9 +32,9 @@ enum {
     GLIDECOTTON_READ_RESULT = 16,      /* bytes of the reader's result */
     GLIDECOTTON_MOST_SUM = 8355840,    /* the greatest memory sum that a run takes: that of a memory of which every byte is 255 */
     GLIDECOTTON_STACK = 16384,         /* bytes of stack that are enough for a call, but of tasks; rust/stack measures it. On x86-64 a run of
-                                          a state takes 14,900 at the most, a bench 4,900 and a read 3,824 */
+                                          a state takes 15,984 at the most, a bench 4,892 and a read 4,352 */
     GLIDECOTTON_TASKS_STACK = 98304    /* and for a call of glidecotton_run_tasks, which holds four machines; on x86-64 it takes
-                                          82,468 at the most */
+                                          81,456 at the most */
 };
 
 /* Where a state has what. All zeros are a fresh machine. A cell, an address, a thrown number, the counter, the flag and each number about

@@ -2,21 +2,19 @@
 #![tactic(auto)]
 
 use machine::Machine;
-use report::Printed;
-use streams::Input;
 
 // One byte more than the longest good image, so that a longer file is refused and not cut to a good one.
 const IMAGE: usize = image::LONGEST_FILE + 1;
 
 fn main(rt: HostRuntime) {
     let mut image = [0u8; IMAGE];
-    let Input::Bytes(read) = streams::read(&rt, &mut image) else {
+    let Some(read) = streams::read(&rt, &mut image) else {
         return;
     };
     let mut memory = [0u8; Machine::MEMORY];
     let mut text = [0u8; report::LONGEST];
     // Only a buffer too short would be refused, and the longest text has room here.
-    let Printed::Text(count) = glidecotton::bench(&image[..read], &mut memory, &mut text) else {
+    let Ok(count) = glidecotton::bench(&image[..read], &mut memory, &mut text) else {
         return;
     };
     streams::write(&rt, &text, count);

@@ -4,6 +4,8 @@
 mod states;
 mod telling;
 
+ghost use Rattle.std.specs.Prelude.{◌<◌, ◌^◌};
+
 use machine::Machine;
 use std::io;
 
@@ -18,20 +20,10 @@ const SUM: u64 = 1048590;
 
 // Whether the memory is as it was handed in.
 fn is_as_made(memory: &[u8]) -> bool {
-    let mut i = 0;
-    while i < memory.len() {
-        if i == 2 {
-            if memory[i] != STORE {
-                return false;
-            }
-        } else {
-            if memory[i] != ZERO {
-                return false;
-            }
-        }
-        i += 1;
-    }
-    true
+    memory
+        .iter()
+        .enumerate()
+        .all(|(i, &byte)| byte == if i == 2 { STORE } else { ZERO })
 }
 
 // One call, and what came of it. States are compared as their bytes.
@@ -45,13 +37,13 @@ fn knock(
 ) -> io::Result<()> {
     let mut before = [0u8; state::SIZE];
     let mut after = [0u8; state::SIZE];
-    state::give(machine, &mut before);
+    state::give(machine, &mut before).unwrap();
     let mut kept = sum;
     let ran = run::run(memory, machine, budget, &mut kept);
     let left = ran.machine;
     let steps = ran.steps;
     let cycles = ran.cycles;
-    state::give(left, &mut after);
+    state::give(left, &mut after).unwrap();
     telling::numbers(rt, name, ran.answer, steps, cycles)?;
     telling::kept(rt, ", state ", before == after)?;
     telling::kept(rt, ", memory ", is_as_made(memory))?;
@@ -59,40 +51,30 @@ fn knock(
     telling::end(rt)
 }
 
-fn with_good_memory(
+fn with_memory<const BYTES: usize>(
     rt: &impl Print,
     name: &str,
     machine: Machine,
     budget: u32,
     sum: u64,
-) -> io::Result<()> {
-    let mut memory = [ZERO; 32768];
+) -> io::Result<()>
+    requires { (2 < BYTES) × (BYTES < 2 ^ 63) }
+{
+    let mut memory = [ZERO; BYTES];
     memory[2] = STORE;
     knock(rt, name, &mut memory, machine, budget, sum)
 }
 
-fn with_short_memory(rt: &impl Print, name: &str) -> io::Result<()> {
-    let mut memory = [ZERO; 32767];
-    memory[2] = STORE;
-    knock(rt, name, &mut memory, Machine::fresh(), 3, SUM)
-}
-
-fn with_long_memory(rt: &impl Print, name: &str) -> io::Result<()> {
-    let mut memory = [ZERO; 32769];
-    memory[2] = STORE;
-    knock(rt, name, &mut memory, Machine::fresh(), 3, SUM)
-}
-
 fn with_budget(rt: &impl Print, name: &str, budget: u32) -> io::Result<()> {
-    with_good_memory(rt, name, Machine::fresh(), budget, SUM)
+    with_memory::<{ Machine::MEMORY }>(rt, name, Machine::fresh(), budget, SUM)
 }
 
 fn with_sum(rt: &impl Print, name: &str, sum: u64) -> io::Result<()> {
-    with_good_memory(rt, name, Machine::fresh(), 3, sum)
+    with_memory::<{ Machine::MEMORY }>(rt, name, Machine::fresh(), 3, sum)
 }
 
 fn with_state(rt: &impl Print, name: &str, machine: Machine) -> io::Result<()> {
-    with_good_memory(rt, name, machine, 3, SUM)
+    with_memory::<{ Machine::MEMORY }>(rt, name, machine, 3, SUM)
 }
 
 fn main(rt: HostRuntime) -> io::Result<()> {
@@ -109,8 +91,8 @@ fn main(rt: HostRuntime) -> io::Result<()> {
     with_sum(&rt, "sum 8355841", 8355841)?;
     with_sum(&rt, "sum 0", 0)?;
     with_sum(&rt, "a sum that 32 bits do not hold", 0x100000000 + SUM)?;
-    with_short_memory(&rt, "memory of 32767")?;
-    with_long_memory(&rt, "memory of 32769")?;
+    with_memory::<32767>(&rt, "memory of 32767", Machine::fresh(), 3, SUM)?;
+    with_memory::<32769>(&rt, "memory of 32769", Machine::fresh(), 3, SUM)?;
     with_state(&rt, "P 65", states::pointing(65, 0, 0, 0, 0))?;
     with_state(&rt, "R 65", states::pointing(0, 65, 0, 0, 0))?;
     with_state(&rt, "S 33", states::pointing(0, 0, 33, 0, 0))?;

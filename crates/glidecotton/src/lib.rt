@@ -2,43 +2,36 @@
 #![tactic(auto)]
 
 ghost use Rattle.std.specs.Prelude.{◌≡◌};
-ghost use Rattle.report.specs.Printing.{says_printed};
+ghost use Rattle.machine.specs.Refusals.{says};
 ghost use Rattle.glidecotton.specs.Bench.{Benches};
 ghost use Rattle.glidecotton.specs.Host.{number_of, Hosts};
 
-use report::Printed;
+use machine::Refusal;
 
-// Reads the image into the lent memory, runs it and writes its text.
-pub fn bench(image: &[u8], memory: &mut [u8], out: &mut [u8]) -> Printed
-    ensures { Benches image.now memory.old out.old (record { printed = says_printed result; memory = memory.new; out = out.new }) }
+// Reads the image into the lent memory, runs it and writes its text: that of the run, or of a refusal for another reason than the memory.
+pub fn bench(image: &[u8], memory: &mut [u8], out: &mut [u8]) -> Result<usize, Refusal>
+    ensures { Benches image.now memory.old out.old (record { printed = says result; memory = memory.new; out = out.new }) }
 {
-    let loaded = image::read(image, memory);
-    let verdict = loaded.verdict;
-    if let image::Verdict::Refused(number) = verdict {
-        if number == image::OTHER_MEMORY {
-            return Printed::Refused(number);
+    match image::read(image, memory) {
+        Ok(loaded) => {
+            let machine = loaded.machine;
+            let ran = run::run_fresh(memory, machine.cells, machine.p, loaded.budget);
+            report::report(ran, out)
         }
-        return report::refusal(number, out);
+        Err(refusal) => match refusal {
+            Refusal::NotAsAsked => Err(refusal),
+            _ => report::refusal(u32::from(refusal), out),
+        },
     }
-    let machine = loaded.machine;
-    let cells = machine.cells;
-    let ran = run::run_fresh(memory, cells, machine.p, loaded.budget);
-    report::report(ran, out)
-}
-
-fn wide(number: u32) -> u64
-    ensures { result ≡ number }
-{
-    number as u64
 }
 
 // The answer of a bench as one number, which a text's length never meets.
-fn number(printed: Printed) -> u64
-    ensures { result ≡ number_of (says_printed printed) }
+fn number(printed: Result<usize, Refusal>) -> u64
+    ensures { result ≡ number_of (says printed) }
 {
     match printed {
-        Printed::Text(count) => count as u64,
-        Printed::Refused(number) => wide(number),
+        Ok(count) => count as u64,
+        Err(refusal) => u32::from(refusal) as u64,
     }
 }
 

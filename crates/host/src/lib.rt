@@ -4,51 +4,62 @@
 
 ghost use Rattle.std.specs.Prelude.{◌≡◌, length};
 ghost use Rattle.plain.specs.Answer.{gives};
+ghost use Rattle.state.specs.Answered.{answered};
 ghost use Rattle.state.specs.Layout as layout;
 ghost use Rattle.state.specs.Promise.{Takes};
 ghost use Rattle.host.specs.Handed.{Hands};
-ghost use Rattle.host.specs.Laws.Budget.{narrowed_to};
 
-use machine::Machine;
+use machine::{Machine, Refusal};
 
-// The least budget that a run refuses.
-const TOO_MUCH: u32 = Machine::BUDGET + 1;
-
-// A budget that 32 bits do not hold stays one that is refused.
-fn narrowed(budget: u64) -> u32
-    ensures { result ≡ narrowed_to budget }
-{
-    if (Machine::BUDGET as u64) < budget {
-        return TOO_MUCH;
-    }
-    budget as u32
-}
+// The least budget that a run refuses: one that 32 bits do not hold becomes this one.
+const TOO_MUCH: u64 = Machine::BUDGET as u64 + 1;
 
 // Runs the machine that the bytes hold. It stands apart from the reading of them, so that what is read and what a run leaves do not stand
 // side by side on the stack (docs/DECISIONS.md).
 fn run_taken(
-    machine: Machine,
+    machine: &mut Machine,
     state: &mut [u8],
     memory: &mut [u8],
     budget: u64,
     sum: u64,
     res: &mut [u8],
-) -> u64
-    requires { Takes state.old (gives tt) machine × (length res.old ≡ (layout.result).width) }
-    ensures { let answer = result in Hands state.old memory.old budget sum res.old (record { number = answer; state = state.new; memory = memory.new; result = res.new }) }
+)
+    requires { Takes state.old (gives tt) machine.old × (length res.old ≡ (layout.result).width) }
+    ensures { Hands state.old memory.old budget sum res.old (record { number = 0; state = state.new; memory = memory.new; result = res.new }) }
 {
-    let mut after = machine;
     let mut kept = sum;
-    let ran = run::run_in(memory, &mut after, narrowed(budget), &mut kept);
-    let steps = ran.steps;
-    let cycles = ran.cycles;
-    state::give(after, state);
-    state::give_counts(ran.answer, steps, cycles, kept, res);
-    0
+    let most = budget.min(TOO_MUCH) as u32;
+    let ran = run::run_in(memory, machine, most, &mut kept);
+    // both buffers are as long as what fills them
+    state::give(*machine, state).unwrap();
+    state::give_counts(ran.answer, ran.steps, ran.cycles, kept, res).unwrap();
 }
 
-// Runs a machine that a host holds as bytes, with the sum of its memory, and hands both back, the sum in the result. Both buffers of its own are measured first,
-// so that a call that answers 2 touches nothing.
+// Both buffers of its own are measured first, so that a call that is refused touches nothing.
+fn run_state(
+    state: &mut [u8],
+    memory: &mut [u8],
+    budget: u64,
+    sum: u64,
+    res: &mut [u8],
+) -> Result<(), Refusal>
+    ensures { Hands state.old memory.old budget sum res.old (record { number = answered result; state = state.new; memory = memory.new; result = res.new }) }
+{
+    if res.len() != state::RESULT {
+        return Err(Refusal::NotAsAsked);
+    }
+    // run where it was taken to: a machine that is handed on by value stands on the stack once more (docs/DECISIONS.md)
+    let mut taken = state::take(state);
+    let machine = match &mut taken {
+        Ok(machine) => machine,
+        Err(why) => return Err(*why),
+    };
+    run_taken(machine, state, memory, budget, sum, res);
+    Ok(())
+}
+
+// Runs a machine that a host holds as bytes, with the sum of its memory, and hands both back, the sum in the result. A call that
+// answers 2 touches nothing.
 pub fn glidecotton_run_state(
     state: &mut [u8],
     memory: &mut [u8],
@@ -58,14 +69,5 @@ pub fn glidecotton_run_state(
 ) -> u64
     ensures { let answer = result in Hands state.old memory.old budget sum res.old (record { number = answer; state = state.new; memory = memory.new; result = res.new }) }
 {
-    if res.len() != state::RESULT {
-        return 2;
-    }
-    let taken = state::take(state);
-    let verdict = taken.verdict;
-    let state::Verdict::Good = verdict else {
-        return 2;
-    };
-    let machine = taken.machine;
-    run_taken(machine, state, memory, budget, sum, res)
+    state::answered(run_state(state, memory, budget, sum, res))
 }

@@ -1,8 +1,9 @@
 -- The reader's promise from what its parts ensure.
 use mathlib.Core.List.{List}
-use mathlib.Core.Path.{◌≡◌, sym, ap, subst, subst₂, ◌∙◌}
+use mathlib.Core.Path.{◌≡◌, sym, ap, subst₂, ◌∙◌}
 use Prim.Native.Nat.{ℕ}
 use lib.ListN.{length}
+use Rattle.std.proofs.Common.{Result, Err}
 use Rattle.plain.specs.Answer.{gives}
 use Rattle.numbers.specs.Laws.Bytes.{Bytes}
 use Rattle.numbers.specs.Laws.Lists.{length-list-at}
@@ -14,15 +15,13 @@ use Rattle.machine.proofs.Laws.Sum.{sum-padded}
 use Rattle.links.specs.Depths.{cells_depth}
 use Rattle.plain.specs.Zeros.{padded}
 use Rattle.image.specs.Format.{budget_of, cell_width}
-use Rattle.image.specs.Loading.{Returned, Read, wrong-memory, not-spelled, read, filled, loaded_from, refused_with, other_memory}
+use Rattle.image.specs.Loading.{Returned, Read, not-spelled, read, filled, loaded_from, refused_with}
 use Rattle.image.specs.Judging.{bad_file, finds, says_judged, values_in, judged_of}
 use Rattle.image.specs.Laws.Sound.{image_in, good-file, image-spellable, image-spells}
 use Rattle.image.proofs.Laws.Computed.{none-spells}
 use Rattle.image.specs.declared.Fault.{Fault}
-use Rattle.image.specs.declared.Judged.{Judged}
 use Rattle.image.specs.declared.Section.TheVariants.{Memory, Cells, Budget}
 use Rattle.image.specs.declared.Spans.{Spans}
-use Rattle.image.specs.declared.Judged.TheVariants as judged
 
 -- what is placed is the image
 module _ (file : List ℕ) (spans : Spans) where
@@ -78,11 +77,7 @@ good-answer file before after returned spans bytes long h m l =
     subst₂ (λ (x : List ℕ) (y : Returned). Read file before x y) (sym m) (sym l)
     (read (image_in file spans) long (image-spellable file bytes spans good) (image-spells file bytes spans good))
 
--- and of the two refusals
-pub memory-refused : (file before : List ℕ) (returned : Returned) → (length before ≡ memory_length → ⊥) → returned ≡ refused_with other_memory → Read file before before returned
-memory-refused file before returned other e = subst (λ (h : Returned). Read file before before h) (sym e) (wrong-memory other)
-
-pub file-refused : (file before : List ℕ) (returned : Returned) (j : Judged) (fault : Fault) → length before ≡ memory_length → says_judged j ≡ judged_of file
-    → j ≡ judged.Bad fault → returned ≡ refused_with bad_file → Read file before before returned
-file-refused file before returned j fault long is bad e =
-    subst (λ (h : Returned). Read file before before h) (sym e) (not-spelled long (none-spells file bad_file fault (sym is ∙ ap says_judged bad)))
+-- and of a bad one
+pub file-refused : (file before : List ℕ) (j : Result Spans Fault) (fault : Fault) → length before ≡ memory_length → says_judged j ≡ judged_of file
+    → j ≡ Err fault → Read file before before (refused_with bad_file)
+file-refused file before j fault long is bad = not-spelled long (none-spells file bad_file fault (sym is ∙ ap says_judged bad))

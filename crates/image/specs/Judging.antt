@@ -1,5 +1,5 @@
 -- What is wrong with a file, from its front: the first clause of document 01's list that fails, and the byte where it does.
-use Rattle.std.specs.Prelude.{Bool, List, ◌≡◌, ℕ, ◌+◌, ◌*◌, leb, ltb, length}
+use Rattle.std.specs.Prelude.{Bool, List, ◌≡◌, ℕ, ◌+◌, ◌*◌, leb, ltb, length, Result, Ok, Err}
 use Rattle.plain.specs.Choice.{pick, both}
 use Rattle.plain.specs.Answer.{Answer, refuses, gives}
 use Rattle.machine.specs.Limits.{most_budget}
@@ -13,8 +13,6 @@ use Rattle.image.specs.declared.Fault.{Fault}
 use Rattle.image.specs.declared.Fault.TheVariants as fault
 use Rattle.image.specs.declared.Span.{Span}
 use Rattle.image.specs.declared.Spans.{Spans}
-use Rattle.image.specs.declared.Judged.{Judged}
-use Rattle.image.specs.declared.Judged.TheVariants as judged
 
 -- the number of a file that is not as document 01 says
 abbrev pub bad_file : ℕ
@@ -30,9 +28,9 @@ answer_of (fails number fault) = refuses number
 answer_of (finds x) = gives x
 
 -- what an answer about a file says
-abbrev pub says_judged : Judged → Finding Spans
-says_judged (judged.Bad fault) = fails bad_file fault
-says_judged (judged.Good spans) = finds spans
+abbrev pub says_judged : Result Spans Fault → Finding Spans
+says_judged (Err fault) = fails bad_file fault
+says_judged (Ok spans) = finds spans
 
 abbrev pub count_allowed : Section → ℕ → Bool
 count_allowed s n = both (leb (limits s).fewest n) (leb n (limits s).most)
@@ -94,6 +92,6 @@ pub data Says (file : List ℕ) : Answer Spans → Type 0 where
   spells-none : ((i : Image) → Spellable i → spelled i ≡ file → ⊥) → Says file (refuses bad_file)
 
 -- `Judges file judged`: the answer, and for a bad file the first clause that fails and its place
-pub record Judges (file : List ℕ) (judged : Judged) : Type 0 where
+pub record Judges (file : List ℕ) (judged : Result Spans Fault) : Type 0 where
   pub answer : Says file (answer_of (says_judged judged))
   pub clause : says_judged judged ≡ judged_of file

@@ -1,25 +1,20 @@
 -- What the reader answers, and what it leaves in the lent memory.
-use Rattle.std.specs.Prelude.{List, ◌≡◌, ℕ, length}
+use Rattle.std.specs.Prelude.{List, ◌≡◌, ℕ, length, Result, Ok, Err}
 use Rattle.plain.specs.Answer.{Answer, refuses, gives, not_as_asked}
 use Rattle.plain.specs.Zeros.{padded}
 use Rattle.machine.specs.Limits.{memory_length}
 use Rattle.machine.specs.declared.Machine.{Machine}
+use Rattle.machine.specs.declared.refusal.Refusal.{Refusal}
+use Rattle.machine.specs.Refusals.{number_of}
 use Rattle.machine.specs.State.{fresh_machine, machine_with}
 use Rattle.machine.specs.Sum.{sum_of}
 use Rattle.image.specs.Format.{Image, Spellable, budget_of, spelled}
 use Rattle.image.specs.Judging.{bad_file}
 use Rattle.image.specs.declared.Loaded.{Loaded}
-use Rattle.image.specs.declared.Verdict.{Verdict}
-use Rattle.image.specs.declared.Verdict.TheVariants.{Good, Refused}
 
 -- the number of a lent memory of another length
 abbrev pub other_memory : ℕ
 other_memory = not_as_asked
-
--- what a verdict says: a good file has no number
-abbrev pub says_verdict : Verdict → Answer (Unit {0})
-says_verdict Good = gives tt
-says_verdict (Refused number) = refuses number
 
 -- what the reader returns: what it says, and the machine, the budget and the memory sum beside it
 pub record Returned : Type 0 where
@@ -27,9 +22,6 @@ pub record Returned : Type 0 where
   pub machine : Machine
   pub budget : ℕ
   pub sum : ℕ
-
-abbrev pub returned : Loaded → Returned
-returned loaded = record { says = says_verdict loaded.verdict; machine = loaded.machine; budget = loaded.budget; sum = loaded.sum }
 
 -- what a call of the reader leaves: the memory, and what it returned
 pub record Reading : Type 0 where
@@ -39,6 +31,14 @@ pub record Reading : Type 0 where
 -- with every refusal a fresh machine, budget 0 and sum 0
 unfoldable pub refused_with : ℕ → Returned
 refused_with answer = record { says = refuses answer; machine = fresh_machine; budget = 0; sum = 0 }
+
+-- what a good file loads has no number
+abbrev pub loaded_as : Loaded → Returned
+loaded_as loaded = record { says = gives tt; machine = loaded.machine; budget = loaded.budget; sum = loaded.sum }
+
+abbrev pub returned : Result Loaded Refusal → Returned
+returned (Ok loaded) = loaded_as loaded
+returned (Err refusal) = refused_with (number_of refusal)
 
 -- the memory that an image fills
 abbrev pub filled : Image → List ℕ

@@ -2,32 +2,24 @@
 ghost use Rattle.std.specs.Prelude.{◌≡◌};
 ghost use Rattle.image.specs.Judging.{says_judged, judged_of, Judges};
 
-use crate::{Fault, Judged, Met, Section, Spans, sections};
+use crate::{Fault, Section, Spans, sections};
 use machine::Machine;
 
 // Section after section, each where the one before it ends; then the budget's limit and the end of the file.
-fn from_the_front(file: &[u8]) -> Judged
+#[tactic(auto, unfolding(crate::specs::Judging::judged_of, crate::specs::Judging::end_judged))]
+fn from_the_front(file: &[u8]) -> Result<Spans, Fault>
     ensures { says_judged result ≡ judged_of file.now }
 {
-    let memory = match sections::span_at(file, Section::Memory, 0) {
-        Met::Bad(fault) => return Judged::Bad(fault),
-        Met::Good(span) => span,
-    };
-    let cells = match sections::span_at(file, Section::Cells, memory.to) {
-        Met::Bad(fault) => return Judged::Bad(fault),
-        Met::Good(span) => span,
-    };
-    let budget = match sections::span_at(file, Section::Budget, cells.to) {
-        Met::Bad(fault) => return Judged::Bad(fault),
-        Met::Good(span) => span,
-    };
+    let memory = sections::span_at(file, Section::Memory, 0)?;
+    let cells = sections::span_at(file, Section::Cells, memory.to)?;
+    let budget = sections::span_at(file, Section::Budget, cells.to)?;
     if Machine::BUDGET < sections::budget_in(file, budget) {
-        return Judged::Bad(Fault::Budget(budget.from));
+        return Err(Fault::Budget(budget.from));
     }
     if budget.to < file.len() {
-        return Judged::Bad(Fault::Surplus(budget.to));
+        return Err(Fault::Surplus(budget.to));
     }
-    Judged::Good(Spans {
+    Ok(Spans {
         memory,
         cells,
         budget,
@@ -35,7 +27,8 @@ fn from_the_front(file: &[u8]) -> Judged
 }
 
 // Where the sections of a good file stand, or the first clause that a bad one fails, and where.
-pub fn judge(file: &[u8]) -> Judged
+#[tactic(auto, using(crate::proofs::Laws::Computed::judged_says))]
+pub fn judge(file: &[u8]) -> Result<Spans, Fault>
     ensures { Judges file.now result }
 {
     from_the_front(file)

@@ -5,9 +5,8 @@ ghost use Rattle.image.specs.Format.{limits, cell_width, budget_of, longest_file
 ghost use Rattle.image.specs.Judging.{span_at, values_in};
 ghost use Rattle.image.specs.Laws.Met.{says_met};
 
-use crate::{Fault, Limits, Met, Section, Span};
+use crate::{Fault, Limits, Section, Span};
 use machine::Machine;
-use numbers::Found;
 
 // The budget of a file that gives none.
 const DEFAULT_BUDGET: u32 = 250000;
@@ -56,40 +55,37 @@ pub fn limits_of(section: Section) -> Limits
 }
 
 // A count is tested before a product is formed with it, so that none can wrap.
-pub(crate) fn span_at(file: &[u8], section: Section, at: usize) -> Met
+#[tactic(auto, using(crate::proofs::Stops::small_product), unfolding(crate::specs::Judging::span_at, numbers::specs::Slices::read_at))]
+pub(crate) fn span_at(file: &[u8], section: Section, at: usize) -> Result<Span, Fault>
     ensures { says_met result ≡ span_at file.now section at }
 {
-    let Found::Number(number) = numbers::read_four(file, at) else {
-        return Met::Bad(Fault::Cut(section, at));
-    };
-    let count = number as usize;
+    let count = numbers::read::<u32>(file, at).ok_or(Fault::Cut(section, at))? as usize;
     let limits = limits_of(section);
     if count < limits.fewest {
-        return Met::Bad(Fault::Count(section, at));
+        return Err(Fault::Count(section, at));
     }
     if limits.most < count {
-        return Met::Bad(Fault::Count(section, at));
+        return Err(Fault::Count(section, at));
     }
     let from = at + COUNT;
     let to = from + limits.width * count;
     if file.len() < to {
-        return Met::Bad(Fault::Cut(section, at));
+        return Err(Fault::Cut(section, at));
     }
-    Met::Good(Span { from, count, to })
+    Ok(Span { from, count, to })
 }
 
 // The number at a place that is known to lie inside.
+#[tactic(auto, unfolding(numbers::specs::Slices::read_at))]
 pub(crate) fn cell_at(file: &[u8], at: usize) -> u32
     requires { at + cell_width ≤ length file.now }
     ensures { result ≡ number_at cell_width file.now at }
 {
-    let Found::Number(cell) = numbers::read_four(file, at) else {
-        return 0;
-    };
-    cell
+    numbers::read::<u32>(file, at).unwrap()
 }
 
 // The budget that a file comes to.
+#[tactic(auto, using(crate::proofs::Placing::first_budget), unfolding(numbers::specs::Lists::list_at))]
 pub(crate) fn budget_in(file: &[u8], span: Span) -> u32
     requires { span.from + cell_width * span.count ≤ length file.now }
     ensures { result ≡ budget_of (values_in file.now Section.Budget span) }

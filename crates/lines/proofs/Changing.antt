@@ -1,7 +1,7 @@
 -- Each way out, from what the called functions ensure.
 use mathlib.Core.Bool.{Bool, true, false}
 use mathlib.Core.List.{List}
-use mathlib.Core.Path.{◌≡◌, refl, ap, ◌∙◌}
+use mathlib.Core.Path.{◌≡◌, ap, ◌∙◌}
 use Prim.Native.Nat.{ℕ, ◌^◌, ◌≤◌, ◌<◌}
 use native.Mathlib.Omega.{arith}
 use borrow.Author.Tests.{eq-eqb, ne_eqb, lt-ltb, le-ltb}
@@ -9,7 +9,7 @@ use lib.ListN.{length}
 use Rattle.plain.specs.Answer.{refuses, gives, not_as_asked}
 use Rattle.plain.specs.Choice.{pick}
 use Rattle.numbers.specs.Bytes.{number_at}
-use Rattle.numbers.specs.Slices.{too_short, read_at, Wrote, write_at}
+use Rattle.numbers.specs.Slices.{read_at, Wrote, write_at}
 use Rattle.numbers.specs.Laws.Slices.{read-inside, write-inside}
 use Rattle.machine.specs.Lines.{raised}
 use Rattle.machine.proofs.Laws.Clash.{never}
@@ -32,21 +32,18 @@ module _ (n : ℕ) (state : List ℕ) where
     found : read_at 4 state waiting_place ≡ gives (number_at 4 state waiting_place)
     found = read-inside 4 state waiting_place (omega arith)
 
-    pub never-outside : {A : Type 0} → refuses too_short ≡ read_at 4 state waiting_place → A
-    never-outside e = let f = found in never (cc)
-
     module _ {w : ℕ} (read : gives w ≡ read_at 4 state waiting_place) where
       there : w ≡ number_at 4 state waiting_place
       there = let f = found in cc
 
-      pub raise-no-line : {number : ℕ} → refuses number ≡ raised_by n w → untouched state ≡ raised_in n state
+      pub raise-no-line : {number : ℕ} → refuses number ≡ raised_by n w → record { number = number; state = state } ≡ raised_in n state
       unfolding raised_by raised_in
       raise-no-line {number} e = rw (eq-eqb (length state) (layout.state).width long) (go (is_line n) e)
         where
           go : (b : Bool) → refuses number ≡ pick b (gives (raised n w)) (refuses not_as_asked)
-              → untouched state ≡ pick b (changed waiting_place (raised n (number_at 4 state waiting_place)) state) (untouched state)
+              → record { number = number; state = state } ≡ pick b (changed waiting_place (raised n (number_at 4 state waiting_place)) state) (untouched state)
           go true e = never (cc)
-          go false e = refl
+          go false e = let same : number ≡ not_as_asked = cc in ap (λ (x : ℕ). record { number = x; state = state }) same
 
       pub line-raised : {v : ℕ} → gives v ≡ raised_by n w → {wrote : Wrote} → wrote ≡ write_at 4 v state waiting_place
           → ◌≡◌ {A = Lent} (record { number = 0; state = wrote.bytes }) (raised_in n state)

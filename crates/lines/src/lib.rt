@@ -3,43 +3,51 @@
 #![tactic(auto)]
 
 ghost use Rattle.std.specs.Prelude.{◌≡◌};
+ghost use Rattle.state.specs.Answered.{answered};
 ghost use Rattle.lines.specs.Bytes.{raised_in, masked_in};
 
-use requests::Raised;
+use machine::Refusal;
 
 // A mask has 16 bits.
 const MASKS: u64 = 0x10000;
+
+fn raise_line(state: &mut [u8], line: u64) -> Result<(), Refusal>
+    ensures { record { number = answered result; state = state.new } ≡ raised_in line state.old }
+{
+    if state.len() != state::SIZE {
+        return Err(Refusal::NotAsAsked);
+    }
+    // both places are inside by the length
+    let waiting = numbers::read::<u32>(state, state::WAITING).unwrap();
+    let after = requests::raise(waiting, line)?;
+    numbers::write::<u32>(state, state::WAITING, after as u64).unwrap();
+    Ok(())
+}
+
+fn set_mask(state: &mut [u8], mask: u64) -> Result<(), Refusal>
+    ensures { record { number = answered result; state = state.new } ≡ masked_in mask state.old }
+{
+    if state.len() != state::SIZE {
+        return Err(Refusal::NotAsAsked);
+    }
+    if MASKS <= mask {
+        return Err(Refusal::NotAsAsked);
+    }
+    // inside by the length
+    numbers::write::<u32>(state, state::MASK, mask).unwrap();
+    Ok(())
+}
 
 // Raises a line from 1 to 15: its request waits until it is served, and twice is once. A call that answers 2 touches nothing.
 pub fn glidecotton_raise_line(state: &mut [u8], line: u64) -> u64
     ensures { record { number = result; state = state.new } ≡ raised_in line state.old }
 {
-    if state.len() != state::SIZE {
-        return 2;
-    }
-    let found = numbers::read_four(state, state::WAITING);
-    // inside by the length: the answer that says otherwise never comes
-    let numbers::Found::Number(waiting) = found else {
-        return 2;
-    };
-    let raised = requests::raise(waiting, line);
-    let Raised::Waiting(after) = raised else {
-        return 2;
-    };
-    numbers::write_four(state, state::WAITING, after);
-    0
+    state::answered(raise_line(state, line))
 }
 
 // Sets the mask: bit n lets line n in. A call that answers 2 touches nothing.
 pub fn glidecotton_set_mask(state: &mut [u8], mask: u64) -> u64
     ensures { record { number = result; state = state.new } ≡ masked_in mask state.old }
 {
-    if state.len() != state::SIZE {
-        return 2;
-    }
-    if MASKS <= mask {
-        return 2;
-    }
-    numbers::write_four(state, state::MASK, mask as u32);
-    0
+    state::answered(set_mask(state, mask))
 }

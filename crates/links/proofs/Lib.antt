@@ -1,3 +1,1 @@
-pub mod Descent
-pub mod Depths
 pub mod Laws

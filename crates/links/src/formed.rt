@@ -1,4 +1,5 @@
-// The two loops of the test for well-formed links, each from the top level down to level 1.
+// The two loops of the test for well-formed links, each from the top level down to level 1. One function for both would
+// take a closure for the copy that has to rise, and the second loop would still have its own test.
 ghost use Rattle.std.specs.Prelude.{◌≡◌, ◌≤◌};
 ghost use Rattle.plain.specs.Choice.{both};
 ghost use Rattle.links.specs.Depths.{subroutines_depth, exceptions_depth, most_copy_of_p};
@@ -7,31 +8,28 @@ ghost use Rattle.links.specs.Linked.{copy_of_r, copy_of_s, copy_of_p, rises, wit
 use crate::{Frame, Level, Links};
 
 // The copies of R rise strictly up to level s, with the last below r.
-pub(crate) fn returns_rise(frames: [Frame; Links::FRAMES], r: usize, s: usize) -> bool
+pub(crate) fn returns_rise(frames: &[Frame; Links::FRAMES], r: usize, s: usize) -> bool
     requires { s ≤ subroutines_depth }
-    ensures { result ≡ rises (copy_of_r frames) r s }
+    ensures { result ≡ rises (copy_of_r frames.now) r s }
 {
     let mut top = r;
-    let mut n = s;
-    while 0 < n {
+    for n in (1..=s).rev() {
         let frame = frames[n];
         if top <= frame.r {
             return false;
         }
         top = frame.r;
-        n = n - 1;
     }
     true
 }
 
 // The copies of S rise strictly up to level e, with the last below s; and each copy of P leaves room for the code that a THROW pushes.
-pub(crate) fn levels_hold(levels: [Level; Links::LEVELS], s: usize, e: usize) -> bool
+pub(crate) fn levels_hold(levels: &[Level; Links::LEVELS], s: usize, e: usize) -> bool
     requires { e ≤ exceptions_depth }
-    ensures { result ≡ both (rises (copy_of_s levels) s e) (within (copy_of_p levels) most_copy_of_p e) }
+    ensures { result ≡ both (rises (copy_of_s levels.now) s e) (within (copy_of_p levels.now) most_copy_of_p e) }
 {
     let mut top = s;
-    let mut n = e;
-    while 0 < n {
+    for n in (1..=e).rev() {
         let level = levels[n];
         if top <= level.s {
             return false;
@@ -40,7 +38,6 @@ pub(crate) fn levels_hold(levels: [Level; Links::LEVELS], s: usize, e: usize) ->
             return false;
         }
         top = level.s;
-        n = n - 1;
     }
     true
 }

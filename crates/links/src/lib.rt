@@ -3,14 +3,13 @@
 #![tactic(auto)]
 
 mod formed;
-mod fresh;
 
 ghost use Rattle.std.specs.Prelude.{◌≡◌};
 ghost use Rattle.links.specs.Fresh.{fresh_links};
 ghost use Rattle.links.specs.Linked.{linked};
 
 // A subroutine level: its locals, the copy of R and the return address (levels from 1; level 0 leaves both at zero).
-#[derive(Clone, Copy)]
+#[derive(Clone, Copy, Default)]
 pub struct Frame {
     pub locals: [u32; Frame::LOCALS],
     pub r: usize,
@@ -18,7 +17,7 @@ pub struct Frame {
 }
 
 // An exception level: its cells, the copies of S and of P and the throw address (levels from 1; level 0 leaves the three at zero).
-#[derive(Clone, Copy)]
+#[derive(Clone, Copy, Default)]
 pub struct Level {
     pub cells: [u32; Level::CELLS],
     pub s: usize,
@@ -27,7 +26,7 @@ pub struct Level {
 }
 
 // The return cells with R, the subroutine levels with S and the exception levels with E.
-#[derive(Clone, Copy)]
+#[derive(Clone, Copy, Default)]
 pub struct Links {
     pub returns: [u32; Links::RETURNS],
     pub r: usize,
@@ -67,28 +66,19 @@ impl Links {
     pub fn fresh() -> Links
         ensures { result ≡ fresh_links }
     {
-        fresh::links()
+        Links::default()
     }
 }
 
 // Whether the pointers are within the depths and the copies of R, S and P are as document 01 asks.
 // The pointers are tested first: the loops read no level above them.
+#[tactic(auto, using(std::proofs::lemmas::Bool::Decides::nat_tests), unfolding(crate::specs::Linked::linked))]
 pub fn well_formed(links: Links) -> bool
     ensures { result ≡ linked links }
 {
-    if Links::RETURNS < links.r {
-        return false;
-    }
-    if Links::SUBROUTINES < links.s {
-        return false;
-    }
-    if Links::EXCEPTIONS < links.e {
-        return false;
-    }
-    let frames = links.frames;
-    let levels = links.levels;
-    if !formed::returns_rise(frames, links.r, links.s) {
-        return false;
-    }
-    formed::levels_hold(levels, links.s, links.e)
+    links.r <= Links::RETURNS
+        && links.s <= Links::SUBROUTINES
+        && links.e <= Links::EXCEPTIONS
+        && formed::returns_rise(&links.frames, links.r, links.s)
+        && formed::levels_hold(&links.levels, links.s, links.e)
 }

@@ -1,3 +1,5 @@
+-- no two refusals have one number
+pub mod Refusing
 -- how many bytes an instruction has
 pub mod Lengths
 -- what bars some bytes
@@ -6,6 +8,8 @@ pub mod Bars
 pub mod Tables
 -- what a step that is carried out tells: no test held, and its row was put
 pub mod Passed
+-- how a run begins: what is declined, a spent budget, the first instruction
+pub mod Steps
 -- what every completed instruction keeps, a run keeps
 pub mod Along
 -- clock cycles: from 1 to 42 for each instruction

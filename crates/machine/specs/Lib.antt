@@ -1,5 +1,7 @@
 -- the memory's length, the budget's limit and the greatest memory sum
 pub mod Limits
+-- the numbers of refusals, by name
+pub mod Refusals
 -- who may touch which byte
 pub mod Reach
 -- interrupt lines: when one enters, and what then

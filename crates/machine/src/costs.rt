@@ -1,5 +1,5 @@
 // Clock cycles by code, 00 to 3D, one to a line; unknown codes have 1. THROW's entry is that of non-zero.
-pub const CYCLES: [u32; 62] = [
+pub static CYCLES: [u32; 62] = [
     1, // 00 NOP
     1, // 01 DROP
     1, // 02 DUP

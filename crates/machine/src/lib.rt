@@ -3,11 +3,13 @@
 #![tactic(auto)]
 
 mod costs;
+mod refusal;
 mod state;
 mod turns;
 
 pub use costs::CYCLES;
 use links::Links;
+pub use refusal::Refusal;
 
 // The state: the parameter stack with its depth P, the three linked stacks, the program counter, the extend flag, where it was last
 // thrown, and the interrupt lines.

@@ -1,56 +1,98 @@
--- The two ways in which a number is read or written, for every count of bytes, and characters are put. k is the number of
--- places within the slice.
-use mathlib.Core.List.{List}
-use mathlib.Core.Path.{◌≡◌, sym, ap, ◌∙◌}
-use Prim.Native.Nat.{ℕ, ◌+◌, ◌-◌, ◌≤◌, ◌<◌}
-use native.Mathlib.Omega.{arith}
-use lib.ListN.{length}
-use lib.Seq.{sets}
+-- The two ways in which a number is read or written, and characters are put: all inside the slice, or not.
+use Rattle.std.specs.Prelude.{Bool, List, true, false, ◌++◌, ◌≡◌, refl, ℕ, ◌+◌, ◌-◌, ◌*◌, ◌%◌, ◌^◌, ◌≤◌, length, take, drop}
+use Rattle.std.specs.List.{between}
+use Rattle.std.proofs.Common.{sym, ap, ◌∙◌, append_assoc, zero-add, mod-eq_of_lt, arith}
+use Rattle.std.proofs.lemmas.List.Edits.{sets, sets-eq, length-between, get_or-between, paste_all}
+use Rattle.std.proofs.lemmas.Slice.{put_mid-paste}
+use Rattle.std.proofs.lemmas.Bool.{leb-true}
+use borrow.Rule.Slice.PartMut.{put_mid}
 use Rattle.plain.specs.Answer.{refuses, gives}
-use Rattle.numbers.specs.Bytes.{number_at, bytes_of}
-use Rattle.numbers.specs.Digits.{hexadecimal}
-use Rattle.numbers.specs.Slices.{too_short, read_at, write_at, put_at}
-use Rattle.numbers.specs.Laws.Digits.{length-hexadecimal}
-use Rattle.numbers.specs.Laws.Slices.{read-inside, read-outside, write-inside, write-outside, put-inside, put-outside}
+use Rattle.plain.specs.Choice.{pick}
+use Rattle.numbers.specs.Bytes.{byte_at, number_at, bytes_of}
+use Rattle.numbers.specs.Slices.{inside, too_short, read_at, Wrote, write_at, WroteText, put_at}
+use Rattle.numbers.specs.Laws.Bytes.{Bytes, same_number, number-below}
 
-module _ (n : ℕ) (l : List ℕ) (a k : ℕ) (places : k ≡ length l + 1 - n) where
-  pub found : (v : ℕ) → a < k → v ≡ number_at n l a → gives v ≡ read_at n l a
-  found v h e = ap gives e ∙ sym (read-inside n l a (omega arith))
+-- the number of a part is the one that stands where the part begins
+pub part-number : (n a : ℕ) (l : List ℕ) → a + n ≤ length l
+    → number_at (length (between a (a + n) l)) (between a (a + n) l) 0 ≡ number_at n l a
+part-number n a l h =
+    let part : List ℕ = between a (a + n) l in
+    let long : length part ≡ n = length-between l a (a + n) h ∙ omega arith in
+    ap (λ (k : ℕ). number_at k part 0) long
+    ∙ same_number n part l 0 a (λ i less. ap (byte_at part) (zero-add i) ∙ get_or-between l a (a + n) i 0 (omega arith))
 
-  pub not_found : k ≤ a → refuses too_short ≡ read_at n l a
-  not_found h = sym (read-outside n l a (omega arith))
+-- a type of n bytes has every number that n bytes spell
+pub read-number : (n a : ℕ) (l : List ℕ) (k joined v : ℕ) → Bytes l → a + n ≤ length l → k ≡ n
+    → joined ≡ number_at (length (between a (a + k) l)) (between a (a + k) l) 0 → v ≡ joined % 2 ^ (8 * n)
+    → v ≡ number_at n l a
+read-number n a l k joined v bytes h e is low =
+    let part : joined ≡ number_at n l a =
+    is ∙ ap (λ (m : ℕ). number_at (length (between a (a + m) l)) (between a (a + m) l) 0) e ∙ part-number n a l h in
+    low ∙ ap (λ (x : ℕ). x % 2 ^ (8 * n)) part ∙ mod-eq_of_lt (number-below n l a bytes)
 
-  pub written : (v : ℕ) (m : List ℕ) → a < k → m ≡ sets l a (bytes_of n v) → record { said = gives tt; bytes = m } ≡ write_at n v l a
-  written v m h e =
-      ap (λ (x : List ℕ). record { said = gives tt; bytes = x }) e ∙ sym (write-inside n l a v (omega arith))
+-- a part that is filled with so many characters or bytes as it has places
+pub part-sets : (fill : ℕ → List ℕ) → ((m : ℕ) → length (fill m) ≡ m) → (n a k : ℕ) (l part : List ℕ)
+    → a + n ≤ length l → k ≡ n → part ≡ fill (length (between a (a + k) l)) → put_mid a (a + k - a) l part ≡ sets l a (fill n)
+part-sets fill long n a k l part h e is =
+    let filled : part ≡ fill n = is ∙ ap fill (length-between l a (a + k) (omega arith) ∙ omega arith) in
+    let places : a + k - a ≡ n = omega arith in
+    let ends : a + n ≡ a + length (fill n) = omega (arith, long n) in
+    (λ i. put_mid a (places i) l (filled i))
+    ∙ put_mid-paste a n l (fill n) (fill n) n refl refl (sym (long n))
+    ∙ paste_all l a (fill n) n (sym (long n))
+    ∙ ap (λ (m : ℕ). take a l ++ (fill n ++ drop m l)) ends
+    ∙ sym (append_assoc (take a l) (fill n) (drop (a + length (fill n)) l))
+    ∙ sym (sets-eq (fill n) l a (omega arith))
 
-  pub not_written : (v : ℕ) → k ≤ a → record { said = refuses too_short; bytes = l } ≡ write_at n v l a
-  not_written v h = sym (write-outside n l a v (omega arith))
+-- the test was made of k bytes, which are n
+module _ (n : ℕ) (l : List ℕ) (a k : ℕ) (e : k ≡ n) where
+  same-test : (b : Bool) → b ≡ inside k l a → b ≡ inside n l a
+  same-test b h = h ∙ ap (λ (m : ℕ). inside m l a) e
 
--- ---- characters, so many as n
+  pub within : true ≡ inside k l a → a + n ≤ length l
+  within h = leb-true (a + n) (length l) (sym (same-test true h))
 
-module _ (characters l : List ℕ) (n a : ℕ) (e : n ≡ length characters) where
-  there : (m : List ℕ) → a + n ≤ length l → m ≡ sets l a characters → record { said = gives (a + n); text = m } ≡ put_at characters l a
-  there m h is = (λ i. record { said = gives (a + e i); text = is i }) ∙ sym (put-inside characters l a (omega arith))
+  pub found : (v : ℕ) → true ≡ inside k l a → v ≡ number_at n l a → gives v ≡ read_at n l a
+  unfolding read_at
+  found v h is =
+      ap gives is ∙ ap (λ (b : Bool). pick b (gives (number_at n l a)) (refuses too_short)) (same-test true h)
 
-  nowhere : length l < a + n → record { said = refuses too_short; text = l } ≡ put_at characters l a
-  nowhere h = sym (put-outside characters l a (omega arith))
+  pub not_found : false ≡ inside k l a → refuses too_short ≡ read_at n l a
+  unfolding read_at
+  not_found h = ap (λ (b : Bool). pick b (gives (number_at n l a)) (refuses too_short)) (same-test false h)
 
-  module _ (k : ℕ) (places : k ≡ length l + 1 - n) where
-    pub put : (m : List ℕ) → a < k → m ≡ sets l a characters → record { said = gives (a + n); text = m } ≡ put_at characters l a
-    put m h is = there m (omega arith) is
+  abbrev wrote : ℕ → Wrote
+  wrote v = record { said = gives tt; bytes = sets l a (bytes_of n v) }
 
-    pub not-put : k ≤ a → record { said = refuses too_short; text = l } ≡ put_at characters l a
-    not-put h = nowhere (omega arith)
+  abbrev untouched : Wrote
+  untouched = record { said = refuses too_short; bytes = l }
 
--- any count of hexadecimal digits, none among them
-module _ (n v : ℕ) (l : List ℕ) (a : ℕ) where
-  pub put-digits : (m : List ℕ) → n ≤ length l → a ≤ length l - n → m ≡ sets l a (hexadecimal n v)
-      → record { said = gives (a + n); text = m } ≡ put_at (hexadecimal n v) l a
-  put-digits m short h is = there (hexadecimal n v) l n a (sym (length-hexadecimal n v)) m (omega arith) is
+  pub written : (v : ℕ) (m : List ℕ) → true ≡ inside k l a → m ≡ sets l a (bytes_of n v)
+      → record { said = gives tt; bytes = m } ≡ write_at n v l a
+  unfolding write_at
+  written v m h is =
+      ap (λ (x : List ℕ). record { said = gives tt; bytes = x }) is
+      ∙ ap (λ (b : Bool). pick b (wrote v) untouched) (same-test true h)
 
-  pub too-many-digits : length l < n → record { said = refuses too_short; text = l } ≡ put_at (hexadecimal n v) l a
-  too-many-digits h = nowhere (hexadecimal n v) l n a (sym (length-hexadecimal n v)) (omega arith)
+  pub not_written : (v : ℕ) → false ≡ inside k l a → record { said = refuses too_short; bytes = l } ≡ write_at n v l a
+  unfolding write_at
+  not_written v h = ap (λ (b : Bool). pick b (wrote v) untouched) (same-test false h)
 
-  pub digits-too-far : n ≤ length l → length l - n < a → record { said = refuses too_short; text = l } ≡ put_at (hexadecimal n v) l a
-  digits-too-far short h = nowhere (hexadecimal n v) l n a (sym (length-hexadecimal n v)) (omega arith)
+-- characters, k of them
+module _ (characters l : List ℕ) (a k : ℕ) (e : k ≡ length characters) where
+  abbrev put-there : WroteText
+  put-there = record { said = gives (a + length characters); text = sets l a characters }
+
+  abbrev put-nowhere : WroteText
+  put-nowhere = record { said = refuses too_short; text = l }
+
+  pub put : (m : List ℕ) → true ≡ inside k l a → m ≡ sets l a characters
+      → record { said = gives (a + k); text = m } ≡ put_at characters l a
+  unfolding put_at
+  put m h is =
+      (λ i. record { said = gives (a + e i); text = is i })
+      ∙ ap (λ (b : Bool). pick b put-there put-nowhere) (same-test (length characters) l a k e true h)
+
+  pub not-put : false ≡ inside k l a → record { said = refuses too_short; text = l } ≡ put_at characters l a
+  unfolding put_at
+  not-put h = ap (λ (b : Bool). pick b put-there put-nowhere) (same-test (length characters) l a k e false h)

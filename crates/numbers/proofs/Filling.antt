@@ -1,116 +1,79 @@
 -- Digits counted, and digits put from the last back to the first.
-use mathlib.Core.List.{List, [], ◌∷◌, ◌++◌}
-use mathlib.Core.Path.{◌≡◌, refl, sym, ap, subst, ◌∙◌}
-use Prim.Native.Nat.{ℕ, suc, ◌+◌, ◌-◌, ◌/◌, ◌%◌, ◌^◌, ◌≤◌, ◌<◌}
-use native.Mathlib.Omega.{arith}
-use lib.ListN.{length, set, length-set, length-append}
-use lib.Seq.{sets}
-use Rattle.numbers.specs.Digits.{digit, decimal, hexadecimal}
-use Rattle.numbers.specs.Laws.Digits.{decimal-small, decimal-large, length-large, length-between, decimal-some, length-hexadecimal}
-use Rattle.numbers.specs.Laws.Writing.{sets_last}
+use Rattle.std.specs.Prelude.{Bool, true, false, List, [], ◌∷◌, ◌++◌, ◌≡◌, refl, ℕ, zero, suc, ◌+◌, ◌-◌, ◌/◌, ◌%◌, ◌^◌, ◌≤◌, ◌<◌, ltb, length, drop, set}
+use Rattle.std.proofs.Common.{sym, ap, ◌∙◌, append_assoc, mod-eq_of_lt, arith, length-append}
+use Rattle.std.proofs.lemmas.Bool.{ltb-true}
+use Rattle.std.proofs.lemmas.List.{drop-set}
+use Rattle.plain.specs.Choice.{pick}
+use Rattle.numbers.specs.Digits.{digit, digits, most_decimal, in_base, decimal, hexadecimal}
+use Rattle.numbers.specs.Laws.Digits.{decimal-small, length-between}
 
 -- ---- how many decimal digits there are
 
-pub few-digits : (n : ℕ) → n < 10 → (1 ≡ length (decimal n)) × (1 ≤ 1)
-few-digits n small = (sym (ap length (decimal-small n small)), omega arith)
+pub few-digits : (n : ℕ) → n < 10 → 1 ≡ length (decimal n)
+few-digits n small = sym (ap length (decimal-small n small))
 
-pub many-digits : (k n : ℕ) → 10 ^ k ≤ n → n < 10 ^ suc k → n < 2 ^ 64 → (suc k ≡ length (decimal n)) × (1 ≤ suc k)
-many-digits k n above below fits = (sym (length-between k n above below fits), omega arith)
+pub many-digits : (k n : ℕ) → 10 ^ k ≤ n → n < 10 ^ suc k → n < 2 ^ 64 → suc k ≡ length (decimal n)
+many-digits k n above below fits = sym (length-between k n above below fits)
 
 -- ---- digits put from the last back to the first
 
--- with the characters that are left, the text will be what it is to be
-pub record Filling (l : List ℕ) (at : ℕ) (all text left : List ℕ) : Type 0 where
-  pub as_long : length text ≡ length l
-  pub room : at + length left ≤ length text
-  pub says : sets text at left ≡ sets l at all
+next-digit : (base place rest d : ℕ) (text : List ℕ) → place < length text → d ≡ digit (rest % base)
+    → in_base base (suc place) rest ++ drop (suc place) text
+    ≡ in_base base place (rest / base) ++ drop place (set text place d)
+unfolding in_base
+next-digit base place rest d text inside e =
+    let next : suc place ≡ place + 1 = omega arith in
+    append_assoc (in_base base place (rest / base)) (digit (rest % base) ∷ []) (drop (suc place) text)
+    ∙ ap (λ (after : List ℕ). in_base base place (rest / base) ++ after)
+    (ap (λ (x : ℕ). x ∷ drop (suc place) text) (sym e)
+    ∙ ap (λ (k : ℕ). d ∷ drop k text) next
+    ∙ sym (drop-set text place d inside))
 
-pub filling-starts : (l : List ℕ) (at : ℕ) (all : List ℕ) → at + length all ≤ length l → Filling l at all l all
-filling-starts l at all h = record { as_long = refl; room = h; says = refl }
+-- a digit more is put, and one fewer is left
+pub digit-put : (base left rest d : ℕ) (text : List ℕ) → 0 < left → left ≤ length text → d ≡ digit (rest % base)
+    → in_base base left rest ++ drop left text
+    ≡ in_base base (left - 1) (rest / base) ++ drop (left - 1) (set text (left - 1) d)
+digit-put base left rest d text some inside e =
+    let more : left ≡ suc (left - 1) = omega arith in
+    ap (λ (k : ℕ). in_base base k rest ++ drop k text) more ∙ next-digit base (left - 1) rest d text (omega arith) e
 
-pub filling-goes : (l : List ℕ) (at : ℕ) (all text left : List ℕ) (d : ℕ) → Filling l at all text (left ++ (d ∷ []))
-    → Filling l at all (set text (at + length left) d) left
-filling-goes l at all text left d f =
-    let room : at + length (left ++ (d ∷ [])) ≤ length text = f.room in
-    let longer : length (left ++ (d ∷ [])) ≡ length left + 1 = length-append left (d ∷ []) in
-    let same : length (set text (at + length left) d) ≡ length text = length-set text (at + length left) d in
-    record {
-      as_long = same ∙ f.as_long;
-      room = omega arith;
-      says = sym (sets_last left text at d) ∙ f.says;
-    }
+-- all digits are put
+pub none-left : (base left rest : ℕ) (text all : List ℕ) → left ≤ 0
+    → all ≡ in_base base left rest ++ drop left text → text ≡ all
+unfolding in_base
+none-left base left rest text all none is =
+    let zero_left : left ≡ 0 = omega arith in
+    sym (is ∙ ap (λ (k : ℕ). in_base base k rest ++ drop k text) zero_left)
 
--- the digits of a decimal number: those of its tenths are left
-pub record Decimal (l : List ℕ) (at value : ℕ) (text : List ℕ) (end rest : ℕ) : Type 0 where
-  pub ends : end ≡ at + length (decimal rest)
-  pub some : 1 ≤ length (decimal rest)
-  pub rest-fits : rest < 2 ^ 64
-  pub filling : Filling l at (decimal value) text (decimal rest)
+-- ---- decimal and hexadecimal digits are digits to a base
 
-pub decimal-starts : (l : List ℕ) (at count value : ℕ) → value < 2 ^ 64 → count ≡ length (decimal value) → at + count ≤ length l
-    → Decimal l at value l (at + count) value
-decimal-starts l at count value fits e h =
-    record {
-      ends = ap (λ (k : ℕ). at + k) e;
-      some = decimal-some value;
-      rest-fits = fits;
-      filling = filling-starts l at (decimal value) (omega arith);
-    }
+pub length-in_base : (base count v : ℕ) → length (in_base base count v) ≡ count
+unfolding in_base
+length-in_base base zero v = refl
+length-in_base base (suc count) v =
+    let rest : length (in_base base count (v / base)) ≡ count = length-in_base base count (v / base) in
+    length-append (in_base base count (v / base)) (digit (v % base) ∷ []) ∙ omega arith
 
-pub decimal-goes : (l : List ℕ) (at value : ℕ) (text : List ℕ) (end rest d : ℕ) → Decimal l at value text end rest → 9 < rest
-    → d ≡ digit (rest % 10) → Decimal l at value (set text (end - 1) d) (end - 1) (rest / 10)
-decimal-goes l at value text end rest d f more e =
-    let fits : rest < 2 ^ 64 = f.rest-fits in
-    let ends : end ≡ at + length (decimal rest) = f.ends in
-    let longer : length (decimal rest) ≡ suc (length (decimal (rest / 10))) = length-large rest (omega arith) fits in
-    let last : end - 1 ≡ at + length (decimal (rest / 10)) = omega arith in
-    let digits : decimal rest ≡ decimal (rest / 10) ++ (d ∷ []) =
-    decimal-large rest (omega arith) fits ∙ ap (λ (x : ℕ). decimal (rest / 10) ++ (x ∷ [])) (sym e) in
-    record {
-      ends = last;
-      some = decimal-some (rest / 10);
-      rest-fits = omega arith;
-      filling = subst (λ (k : ℕ). Filling l at (decimal value) (set text k d) (decimal (rest / 10))) (sym last)
-          (filling-goes l at (decimal value) text (decimal (rest / 10)) d
-          (subst (λ (left : List ℕ). Filling l at (decimal value) text left) digits f.filling));
-    }
+pub in_base-hexadecimal : (count v : ℕ) → in_base 16 count v ≡ hexadecimal count v
+unfolding in_base hexadecimal
+in_base-hexadecimal zero v = refl
+in_base-hexadecimal (suc count) v =
+    ap (λ (front : List ℕ). front ++ (digit (v % 16) ∷ [])) (in_base-hexadecimal count (v / 16))
 
-pub decimal-ends : (l : List ℕ) (at value : ℕ) (text : List ℕ) (end rest d : ℕ) → Decimal l at value text end rest → rest ≤ 9
-    → d ≡ digit rest → set text at d ≡ sets l at (decimal value)
-decimal-ends l at value text end rest d f less e =
-    let small : rest < 10 = omega arith in
-    ap (λ (x : ℕ). set text at x) e ∙ ap (sets text at) (sym (decimal-small rest small)) ∙ f.filling.says
+in_base-digits : (most n : ℕ) → in_base 10 (length (digits most n)) n ≡ digits most n
+unfolding in_base digits
+in_base-digits zero n = refl
+in_base-digits (suc most) n = by-test (ltb n 10) (digits most (n / 10)) (in_base-digits most (n / 10)) refl
+  where
+    by-test : (t : Bool) (front : List ℕ) → in_base 10 (length front) (n / 10) ≡ front → ltb n 10 ≡ t
+        → in_base 10 (length (pick t (digit n ∷ []) (front ++ (digit (n % 10) ∷ [])))) n
+        ≡ pick t (digit n ∷ []) (front ++ (digit (n % 10) ∷ []))
+    by-test true front same small = ap (λ (d : ℕ). digit d ∷ []) (mod-eq_of_lt (ltb-true n 10 small))
+    by-test false front same large =
+        let longer : length (front ++ (digit (n % 10) ∷ [])) ≡ suc (length front) =
+        length-append front (digit (n % 10) ∷ []) ∙ omega arith in
+        ap (λ (k : ℕ). in_base 10 k n) longer ∙ ap (λ (l : List ℕ). l ++ (digit (n % 10) ∷ [])) same
 
--- the digits of a hexadecimal number: so many are left
-pub record Hexadecimal (l : List ℕ) (at count value : ℕ) (text : List ℕ) (left rest : ℕ) : Type 0 where
-  pub room : at + left ≤ length text
-  pub filling : Filling l at (hexadecimal count value) text (hexadecimal left rest)
-
-pub hexadecimal-starts : (l : List ℕ) (at count value : ℕ) → at + count ≤ length l → Hexadecimal l at count value l count value
-hexadecimal-starts l at count value h =
-    let long : length (hexadecimal count value) ≡ count = length-hexadecimal count value in
-    record { room = h; filling = filling-starts l at (hexadecimal count value) (omega arith) }
-
-pub hexadecimal-goes : (l : List ℕ) (at count value : ℕ) (text : List ℕ) (left rest d : ℕ) → Hexadecimal l at count value text left rest → 0 < left
-    → d ≡ digit (rest % 16) → Hexadecimal l at count value (set text (at + (left - 1)) d) (left - 1) (rest / 16)
-unfolding hexadecimal
-hexadecimal-goes l at count value text left rest d f some e =
-    let room : at + left ≤ length text = f.room in
-    let left_is : left ≡ suc (left - 1) = omega arith in
-    let digits : hexadecimal left rest ≡ hexadecimal (left - 1) (rest / 16) ++ (d ∷ []) =
-    ap (λ (k : ℕ). hexadecimal k rest) left_is ∙ ap (λ (x : ℕ). hexadecimal (left - 1) (rest / 16) ++ (x ∷ [])) (sym e) in
-    let long : length (hexadecimal (left - 1) (rest / 16)) ≡ left - 1 = length-hexadecimal (left - 1) (rest / 16) in
-    let same : length (set text (at + (left - 1)) d) ≡ length text = length-set text (at + (left - 1)) d in
-    record {
-      room = omega arith;
-      filling = subst (λ (k : ℕ). Filling l at (hexadecimal count value) (set text (at + k) d) (hexadecimal (left - 1) (rest / 16))) long
-          (filling-goes l at (hexadecimal count value) text (hexadecimal (left - 1) (rest / 16)) d
-          (subst (λ (l' : List ℕ). Filling l at (hexadecimal count value) text l') digits f.filling));
-    }
-
-pub hexadecimal-ends : (l : List ℕ) (at count value : ℕ) (text : List ℕ) (left rest : ℕ) → Hexadecimal l at count value text left rest → left ≤ 0
-    → text ≡ sets l at (hexadecimal count value)
-unfolding hexadecimal
-hexadecimal-ends l at count value text left rest f none =
-    let zero_left : 0 ≡ left = omega arith in
-    ap (λ (k : ℕ). sets text at (hexadecimal k rest)) zero_left ∙ f.filling.says
+pub in_base-decimal : (n : ℕ) → in_base 10 (length (decimal n)) n ≡ decimal n
+unfolding decimal
+in_base-decimal n = in_base-digits most_decimal n

@@ -1,2 +1,3 @@
 pub mod Answering
 pub mod Filling
+pub mod Eight

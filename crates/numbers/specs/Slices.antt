@@ -1,17 +1,10 @@
 -- What reading and writing a number in a slice answers: of n bytes at a place, all have to lie inside.
-use Rattle.std.specs.Prelude.{Bool, List, ℕ, ◌+◌, leb, length}
+use Rattle.std.specs.Prelude.{Bool, List, ℕ, ◌+◌, leb, length, Option, Some, None, Result, Ok, Err}
 use Rattle.std.proofs.lemmas.List.Edits.{sets}
 use Rattle.plain.specs.Answer.{Answer, refuses, gives, not_as_asked}
 use Rattle.plain.specs.Choice.{pick}
 use Rattle.numbers.specs.Bytes.{number_at, bytes_of}
-use Rattle.numbers.specs.declared.Found.{Found}
-use Rattle.numbers.specs.declared.Found.TheVariants.{Number, Outside}
-use Rattle.numbers.specs.declared.FoundEight.{FoundEight}
-use Rattle.numbers.specs.declared.FoundEight.TheVariants as eight
-use Rattle.numbers.specs.declared.Put.{Put}
-use Rattle.numbers.specs.declared.Put.TheVariants.{Until, NoRoom}
-use Rattle.numbers.specs.declared.Written.{Written}
-use Rattle.numbers.specs.declared.Written.TheVariants as writing
+use Rattle.numbers.specs.declared.Outside.{Outside}
 
 abbrev pub inside : ℕ → List ℕ → ℕ → Bool
 inside n bytes a = leb (a + n) (length bytes)
@@ -20,21 +13,17 @@ inside n bytes a = leb (a + n) (length bytes)
 abbrev pub too_short : ℕ
 too_short = not_as_asked
 
-abbrev pub says_found : Found → Answer ℕ
-says_found (Number v) = gives v
-says_found Outside = refuses too_short
-
-abbrev pub says_found_eight : FoundEight → Answer ℕ
-says_found_eight (eight.Number v) = gives v
-says_found_eight eight.Outside = refuses too_short
+abbrev pub says_found : Option ℕ → Answer ℕ
+says_found (Some v) = gives v
+says_found None = refuses too_short
 
 -- the number that n bytes spell at a place
 unfoldable pub read_at : ℕ → List ℕ → ℕ → Answer ℕ
 read_at n bytes a = pick (inside n bytes a) (gives (number_at n bytes a)) (refuses too_short)
 
-abbrev pub says_written : Written → Answer (Unit {0})
-says_written writing.Done = gives tt
-says_written writing.Outside = refuses too_short
+abbrev pub says_written : Result (Unit {0}) Outside → Answer (Unit {0})
+says_written (Ok done) = gives done
+says_written (Err outside) = refuses too_short
 
 -- what a write answers and what the slice then holds
 pub record Wrote : Type 0 where
@@ -49,9 +38,9 @@ write_at n v bytes a =
     (record { said = refuses too_short; bytes = bytes })
 
 -- where the characters end
-abbrev pub says_put : Put → Answer ℕ
-says_put (Until end) = gives end
-says_put NoRoom = refuses too_short
+abbrev pub says_put : Result ℕ Outside → Answer ℕ
+says_put (Ok end) = gives end
+says_put (Err outside) = refuses too_short
 
 -- what putting characters answers and what the slice then holds
 pub record WroteText : Type 0 where

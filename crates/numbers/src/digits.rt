@@ -1,10 +1,9 @@
 // Numbers as characters, put at a place of a slice of any length.
-ghost use Rattle.std.specs.Prelude.{◌≡◌, ◌+◌, ◌<◌, ◌≤◌, length};
-ghost use Rattle.std.proofs.lemmas.List.Edits.{sets};
-ghost use Rattle.numbers.specs.Digits.{digit, decimal, hexadecimal};
+ghost use Rattle.std.specs.Prelude.{◌≡◌, ◌<◌, ◌≤◌, length};
+ghost use Rattle.numbers.specs.Digits.{digit, in_base, decimal, hexadecimal};
 ghost use Rattle.numbers.specs.Slices.{says_put, put_at};
 
-use crate::{Put, places};
+use crate::{Outside, places};
 
 // How many decimal digits a number of 64 bits has at the most.
 pub const MOST_DECIMAL: usize = 20;
@@ -20,121 +19,79 @@ fn digit_of(d: u8) -> u8
     0x41 + (d - 10)
 }
 
-// How many decimal digits a number has: at least one. By comparing, since a division for each digit is slow, and its loop, joined
-// with a run, costs every step of it (docs/SPEED.md).
+// How many decimal digits a number has: at least one. By comparing, since a division for each digit is slow, and its
+// loop, joined with a run, costs every step of it (docs/SPEED.md).
 fn decimal_length(value: u64) -> usize
-    ensures { (result ≡ length (decimal value)) × (1 ≤ result) }
+    ensures { result ≡ length (decimal value) }
 {
-    if value < 10 {
-        return 1;
+    match value {
+        ..=9 => 1,
+        ..=99 => 2,
+        ..=999 => 3,
+        ..=9999 => 4,
+        ..=99999 => 5,
+        ..=999999 => 6,
+        ..=9999999 => 7,
+        ..=99999999 => 8,
+        ..=999999999 => 9,
+        ..=9999999999 => 10,
+        ..=99999999999 => 11,
+        ..=999999999999 => 12,
+        ..=9999999999999 => 13,
+        ..=99999999999999 => 14,
+        ..=999999999999999 => 15,
+        ..=9999999999999999 => 16,
+        ..=99999999999999999 => 17,
+        ..=999999999999999999 => 18,
+        ..=9999999999999999999 => 19,
+        _ => MOST_DECIMAL,
     }
-    if value < 100 {
-        return 2;
-    }
-    if value < 1000 {
-        return 3;
-    }
-    if value < 10000 {
-        return 4;
-    }
-    if value < 100000 {
-        return 5;
-    }
-    if value < 1000000 {
-        return 6;
-    }
-    if value < 10000000 {
-        return 7;
-    }
-    if value < 100000000 {
-        return 8;
-    }
-    if value < 1000000000 {
-        return 9;
-    }
-    if value < 10000000000 {
-        return 10;
-    }
-    if value < 100000000000 {
-        return 11;
-    }
-    if value < 1000000000000 {
-        return 12;
-    }
-    if value < 10000000000000 {
-        return 13;
-    }
-    if value < 100000000000000 {
-        return 14;
-    }
-    if value < 1000000000000000 {
-        return 15;
-    }
-    if value < 10000000000000000 {
-        return 16;
-    }
-    if value < 100000000000000000 {
-        return 17;
-    }
-    if value < 1000000000000000000 {
-        return 18;
-    }
-    if value < 10000000000000000000 {
-        return 19;
-    }
-    MOST_DECIMAL
 }
 
-// From the last digit back to the first, which stands at the place; the digits are known to lie inside.
-fn put_decimal(text: &mut [u8], at: usize, count: usize, value: u64)
-    requires { (count ≡ length (decimal value)) × (at + count ≤ length text.old) }
-    ensures { text.new ≡ sets text.old at (decimal value) }
+// The lowest digits of a number to a base, as many as there is room for, from the last back to the first.
+fn put_digits<const BASE: u64>(digits: &mut [u8], value: u64)
+    requires { (1 ≤ BASE) × (BASE ≤ 16) }
+    ensures { digits.new ≡ in_base BASE (length digits.old) value }
 {
-    let mut end = at + count;
     let mut rest = value;
-    while 9 < rest {
-        end -= 1;
-        text[end] = digit_of((rest % 10) as u8);
-        rest = rest / 10;
+    for place in (0..digits.len()).rev() {
+        digits[place] = digit_of((rest % BASE) as u8);
+        rest /= BASE;
     }
-    text[at] = digit_of(rest as u8);
 }
 
-fn put_hexadecimal(text: &mut [u8], at: usize, count: usize, value: u32)
-    requires { at + count ≤ length text.old }
-    ensures { text.new ≡ sets text.old at (hexadecimal count value) }
+// So many of a number's lowest digits to a base put at a place.
+fn write_digits<const BASE: u64>(
+    text: &mut [u8],
+    at: usize,
+    count: usize,
+    value: u64,
+) -> Result<usize, Outside>
+    requires { (1 ≤ BASE) × (BASE ≤ 16) }
+    ensures { record { said = says_put result; text = text.new } ≡ put_at (in_base BASE count value) text.old at }
 {
-    let mut left = count;
-    let mut rest = value;
-    while 0 < left {
-        left -= 1;
-        text[at + left] = digit_of((rest % 16) as u8);
-        rest = rest / 16;
+    if !places::inside(count, text, at) {
+        return Err(Outside);
     }
+    put_digits::<BASE>(&mut text[at..at + count], value);
+    Ok(at + count)
 }
 
 // A number in decimal, with no zero in front but for 0 itself.
-pub fn write_decimal(text: &mut [u8], at: usize, value: u64) -> Put
+pub fn write_decimal(text: &mut [u8], at: usize, value: u64) -> Result<usize, Outside>
     ensures { record { said = says_put result; text = text.new } ≡ put_at (decimal value) text.old at }
 {
-    let count = decimal_length(value);
-    if at < places::within(text.len(), count) {
-        put_decimal(text, at, count, value);
-        return Put::Until(at + count);
-    }
-    Put::NoRoom
+    write_digits::<10>(text, at, decimal_length(value), value)
 }
 
 // The lowest digits of a number to the base 16, in capitals, as many as are asked for.
-pub fn write_hexadecimal(text: &mut [u8], at: usize, count: usize, value: u32) -> Put
+pub fn write_hexadecimal(
+    text: &mut [u8],
+    at: usize,
+    count: usize,
+    value: u32,
+) -> Result<usize, Outside>
     ensures { record { said = says_put result; text = text.new } ≡ put_at (hexadecimal count value) text.old at }
 {
-    if text.len() < count {
-        return Put::NoRoom;
-    }
-    if text.len() - count < at {
-        return Put::NoRoom;
-    }
-    put_hexadecimal(text, at, count, value);
-    Put::Until(at + count)
+    write_digits::<16>(text, at, count, value as u64)
 }

@@ -1,13 +1,10 @@
 // Places of a slice.
-ghost use Rattle.std.specs.Prelude.{◌≡◌, ◌+◌, ◌-◌, ◌≤◌};
+ghost use Rattle.std.specs.Prelude.{◌≡◌};
+ghost use Rattle.numbers.specs.Slices.{inside};
 
-// At how many places of so long a slice so many bytes lie wholly inside. No sum is formed that could wrap.
-pub(crate) fn within(length: usize, count: usize) -> usize
-    requires { 1 ≤ count }
-    ensures { result ≡ length + 1 - count }
+// Whether so many bytes from a place on all lie in the slice: the place is compared with how many such places there are.
+pub(crate) fn inside(count: usize, bytes: &[u8], at: usize) -> bool
+    ensures { result ≡ inside count bytes.now at }
 {
-    if length < count {
-        return 0;
-    }
-    length - count + 1
+    at < (bytes.len() + 1).saturating_sub(count)
 }

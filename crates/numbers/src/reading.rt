@@ -1,70 +1,26 @@
 // Numbers at a place of a slice of any length.
-ghost use Rattle.std.specs.Prelude.{◌≡◌, ◌+◌, ◌≤◌, length};
+ghost use Rattle.std.specs.Prelude.{◌≡◌, ◌≤◌, length, option_map};
 ghost use Rattle.numbers.specs.Bytes.{number_at};
-ghost use Rattle.numbers.specs.Slices.{says_found, says_found_eight, read_at};
+ghost use Rattle.numbers.specs.Slices.{says_found, read_at};
 
-use crate::{Found, FoundEight, joining, places};
+use crate::{Number, places};
 
-// The bytes are known to lie inside.
-fn four_at(bytes: &[u8], at: usize) -> u32
-    requires { at + 4 ≤ length bytes.now }
-    ensures { result ≡ number_at 4 bytes.now at }
+// The number that a few bytes spell, the highest first: the last of eight, of which the others are 0.
+fn joined(bytes: &[u8]) -> u64
+    requires { length bytes.now ≤ 8 }
+    ensures { result ≡ number_at (length bytes.now) bytes.now 0 }
 {
-    joining::four_bytes(bytes[at], bytes[at + 1], bytes[at + 2], bytes[at + 3])
+    let mut eight = [0; 8];
+    eight[8 - bytes.len()..].copy_from_slice(bytes);
+    u64::from_be_bytes(eight)
 }
 
-fn eight_at(bytes: &[u8], at: usize) -> u64
-    requires { at + 8 ≤ length bytes.now }
-    ensures { result ≡ number_at 8 bytes.now at }
+// The number that stands at a place, of as many bytes as its type has.
+pub fn read<T: Number>(bytes: &[u8], at: usize) -> Option<T>
+    ensures { says_found (option_map T.value result) ≡ read_at T.BYTES bytes.now at }
 {
-    joining::eight_bytes(
-        bytes[at],
-        bytes[at + 1],
-        bytes[at + 2],
-        bytes[at + 3],
-        bytes[at + 4],
-        bytes[at + 5],
-        bytes[at + 6],
-        bytes[at + 7],
-    )
-}
-
-#[tactic(auto, using(crate::proofs::Answering::found, crate::proofs::Answering::not_found))]
-pub fn read_one(bytes: &[u8], at: usize) -> Found
-    ensures { says_found result ≡ read_at 1 bytes.now at }
-{
-    if at < places::within(bytes.len(), 1) {
-        return Found::Number(joining::one_byte(bytes[at]));
+    if !places::inside(T::BYTES, bytes, at) {
+        return None;
     }
-    Found::Outside
-}
-
-#[tactic(auto, using(crate::proofs::Answering::found, crate::proofs::Answering::not_found))]
-pub fn read_two(bytes: &[u8], at: usize) -> Found
-    ensures { says_found result ≡ read_at 2 bytes.now at }
-{
-    if at < places::within(bytes.len(), 2) {
-        return Found::Number(joining::two_bytes(bytes[at], bytes[at + 1]));
-    }
-    Found::Outside
-}
-
-#[tactic(auto, using(crate::proofs::Answering::found, crate::proofs::Answering::not_found))]
-pub fn read_four(bytes: &[u8], at: usize) -> Found
-    ensures { says_found result ≡ read_at 4 bytes.now at }
-{
-    if at < places::within(bytes.len(), 4) {
-        return Found::Number(four_at(bytes, at));
-    }
-    Found::Outside
-}
-
-#[tactic(auto, using(crate::proofs::Answering::found, crate::proofs::Answering::not_found))]
-pub fn read_eight(bytes: &[u8], at: usize) -> FoundEight
-    ensures { says_found_eight result ≡ read_at 8 bytes.now at }
-{
-    if at < places::within(bytes.len(), 8) {
-        return FoundEight::Number(eight_at(bytes, at));
-    }
-    FoundEight::Outside
+    Some(T::lowest(joined(&bytes[at..at + T::BYTES])))
 }

@@ -1,13 +1,11 @@
 -- The next ready task, by the numbers that the tasks keep.
-use Rattle.std.specs.Prelude.{List, [], ◌∷◌, ℕ, eqb, get_or}
+use Rattle.std.specs.Prelude.{Option, Some, None, List, [], ◌∷◌, ℕ, eqb, get_or}
 use Rattle.plain.specs.Choice.{pick}
 use Rattle.machine.specs.Tasks.{ready, Whose, nobodys, of_task}
-use Rattle.order.specs.declared.Next.{Next}
-use Rattle.order.specs.declared.Next.TheVariants as next
 
-abbrev pub says_next : Next → Whose
-says_next next.Nobody = nobodys
-says_next (next.Task t) = of_task t
+abbrev pub says_next : Option ℕ → Whose
+says_next None = nobodys
+says_next (Some t) = of_task t
 
 abbrev pub first_kept : List ℕ → List ℕ → Whose
 first_kept kept [] = nobodys

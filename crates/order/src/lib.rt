@@ -8,12 +8,6 @@ ghost use Rattle.order.specs.Order.{first_kept, says_next};
 
 use machine::Tasks;
 
-#[derive(Clone, Copy)]
-pub enum Next {
-    Nobody,
-    Task(usize),
-}
-
 // After the last task comes the first.
 pub fn after(t: usize) -> usize
     ensures { result ≡ following (t % tasks_count) }
@@ -21,25 +15,25 @@ pub fn after(t: usize) -> usize
     (t % Tasks::COUNT + 1) % Tasks::COUNT
 }
 
-// The next task in circular order that is ready, by the numbers that the tasks keep.
-pub fn next_ready(kept: &[usize; Tasks::COUNT], from: usize) -> Next
+// The next task in circular order that is ready, by the numbers that the tasks keep: none, where none is.
+pub fn next_ready(kept: &[usize; Tasks::COUNT], from: usize) -> Option<usize>
     ensures { says_next result ≡ first_kept kept.now (in_order tasks_count (from % tasks_count)) }
 {
     let first = from % Tasks::COUNT;
     if kept[first] == Tasks::READY {
-        return Next::Task(first);
+        return Some(first);
     }
     let second = after(first);
     if kept[second] == Tasks::READY {
-        return Next::Task(second);
+        return Some(second);
     }
     let third = after(second);
     if kept[third] == Tasks::READY {
-        return Next::Task(third);
+        return Some(third);
     }
     let fourth = after(third);
     if kept[fourth] == Tasks::READY {
-        return Next::Task(fourth);
+        return Some(fourth);
     }
-    Next::Nobody
+    None
 }

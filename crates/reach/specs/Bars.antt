@@ -1,15 +1,16 @@
 -- What bars some bytes, as the functions answer it, and the first address past a reach.
-use Rattle.std.specs.Prelude.{ℕ, ltb}
+use Rattle.std.specs.Prelude.{Option, Some, None, ℕ, ltb}
 use Rattle.plain.specs.Choice.{pick}
-use Rattle.machine.specs.Reach.{Bar, none, outside, foreign}
+use Rattle.machine.specs.Reach.{none, outside, foreign}
+use Rattle.machine.specs.Reach as machine
 use Rattle.machine.specs.declared.Reach.{Reach}
-use Rattle.reach.specs.declared.Barring.{Barring}
-use Rattle.reach.specs.declared.Barring.TheVariants as barred
+use Rattle.reach.specs.declared.Bar.{Bar}
+use Rattle.reach.specs.declared.Bar.TheVariants.{Outside, Foreign}
 
-abbrev pub says_barred : Barring → Bar
-says_barred barred.None = none
-says_barred barred.Outside = outside
-says_barred barred.Foreign = foreign
+abbrev pub says_barred : Option Bar → machine.Bar
+says_barred None = none
+says_barred (Some Outside) = outside
+says_barred (Some Foreign) = foreign
 
 -- past the shared bytes
 abbrev pub past_shared : Reach → ℕ → ℕ

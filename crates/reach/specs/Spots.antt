@@ -1,19 +1,19 @@
 -- Where a fetch or a store reaches: by the width that its code names and the place of its address.
-use Rattle.std.specs.Prelude.{◌≡◌, Bool, true, false, ℕ, ◌+◌, ◌-◌, ◌*◌, ◌%◌, ◌<◌, leb, eqb}
+use Rattle.std.specs.Prelude.{Result, Ok, Err, ◌≡◌, Bool, true, false, ℕ, ◌+◌, ◌-◌, ◌*◌, ◌%◌, ◌<◌, leb, eqb}
 use Rattle.plain.specs.Answer.{Answer, refuses, gives}
 use Rattle.plain.specs.Choice.{pick, both}
 use Rattle.links.specs.Depths.{locals_count, level_cells}
 use Rattle.machine.specs.Reach.{bar_of, is_foreign}
 use Rattle.machine.specs.Memory.{size, place_of, view_start, view_end}
+use Rattle.machine.specs.Refusals.{number_of}
 use Rattle.machine.specs.declared.Reach.{Reach}
+use Rattle.machine.specs.declared.refusal.Refusal.{Refusal}
 use Rattle.machine.specs.declared.Width.{Width}
 use Rattle.machine.specs.declared.Width.TheVariants.{Byte, Word, Long}
 use Rattle.machine.specs.declared.Place.{Place}
 use Rattle.machine.specs.declared.Place.TheVariants.{Memory, View, Nowhere}
 use Rattle.reach.specs.declared.Spot.{Spot}
 use Rattle.reach.specs.declared.Spot.TheVariants as spot
-use Rattle.reach.specs.declared.Reached.{Reached}
-use Rattle.reach.specs.declared.Reached.TheVariants as reached
 
 -- FETCH.L and STORE.L, FETCH.W and STORE.W, FETCH.B and STORE.B
 abbrev pub width_of : ℕ → Width
@@ -41,9 +41,9 @@ place_at (spot.Local k) = View (4 * k)
 place_at (spot.Cell k) = View (4 * (locals_count + k))
 place_at (spot.View a) = View a
 
-abbrev pub says_reached : Reached → Answer Place
-says_reached (reached.At spot) = gives (place_at spot)
-says_reached (reached.Refused number) = refuses number
+abbrev pub says_reached : Result Spot Refusal → Answer Place
+says_reached (Ok spot) = gives (place_at spot)
+says_reached (Err why) = refuses (number_of why)
 
 -- an access that lies wholly in the own part
 abbrev pub in_own : Reach → ℕ → ℕ → Bool
@@ -61,6 +61,6 @@ SpotToldApart reach w (spot.Local k) = (size w ≡ 4) × (k < locals_count)
 SpotToldApart reach w (spot.Cell k) = (size w ≡ 4) × (k < level_cells)
 SpotToldApart reach w (spot.View a) = is_whole w a ≡ false
 
-abbrev pub ToldApart : Reach → Width → Reached → Type 0
-ToldApart reach w (reached.At spot) = SpotToldApart reach w spot
-ToldApart reach w (reached.Refused number) = Unit {0}
+abbrev pub ToldApart : Reach → Width → Result Spot Refusal → Type 0
+ToldApart reach w (Ok spot) = SpotToldApart reach w spot
+ToldApart reach w (Err why) = Unit {0}

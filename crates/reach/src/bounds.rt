@@ -3,7 +3,7 @@ ghost use Rattle.std.specs.Prelude.{◌≡◌};
 ghost use Rattle.machine.specs.Reach.{bar_of, is_foreign};
 ghost use Rattle.reach.specs.Bars.{says_barred, past_shared, past_own};
 
-use crate::Barring;
+use crate::Bar;
 use machine::{Machine, Reach};
 
 fn past_shared(reach: Reach, at: usize) -> usize
@@ -28,33 +28,29 @@ fn past_own(reach: Reach, at: usize) -> usize
 }
 
 // So many bytes from an address, each tested before the next: the first that may not be touched is outside memory, or is in another's part.
-pub fn barred(reach: Reach, address: u32, size: u8) -> Barring
+pub fn barred(reach: Reach, address: u32, size: u8) -> Option<Bar>
     ensures { says_barred result ≡ bar_of reach address size }
 {
     if size == 0 {
-        return Barring::None;
+        return None;
     }
     let at = address as usize;
     let end = at + size as usize;
     let beyond = past_own(reach, past_shared(reach, at));
     if beyond < end {
         if beyond < Machine::MEMORY {
-            return Barring::Foreign;
+            return Some(Bar::Foreign);
         }
-        return Barring::Outside;
+        return Some(Bar::Outside);
     }
     if Machine::MEMORY < end {
-        return Barring::Outside;
+        return Some(Bar::Outside);
     }
-    Barring::None
+    None
 }
 
-pub fn is_foreign(barring: Barring) -> bool
-    ensures { result ≡ is_foreign (says_barred barring) }
+pub fn is_foreign(bar: Option<Bar>) -> bool
+    ensures { result ≡ is_foreign (says_barred bar) }
 {
-    match barring {
-        Barring::None => false,
-        Barring::Outside => false,
-        Barring::Foreign => true,
-    }
+    bar == Some(Bar::Foreign)
 }

@@ -2,7 +2,10 @@
 // of such a machine, so that each of the two exported functions has all that it calls compiled into it; reader_c exports it.
 #![tactic(auto)]
 
+ghost use Rattle.state.specs.Answered.{answered};
 ghost use Rattle.reader.specs.Reads.{Reads};
+
+use machine::Refusal;
 
 // What stands in the result: the budget and the sum of the memory that was filled, in 8 bytes each.
 const RESULT_BUDGET: usize = 0;
@@ -11,8 +14,31 @@ const RESULT_SUM: usize = RESULT_BUDGET + 8;
 
 const RESULT: usize = RESULT_SUM + 8;
 
-// Reads an image into the lent memory, and hands out the machine, the budget and the memory sum. State and result are measured
-// first and the file is judged whole, so that only a call that answers 0 touches anything.
+// State and result are measured first and the file is judged whole, so that only a good call touches anything.
+fn read_image(
+    image: &[u8],
+    memory: &mut [u8],
+    state: &mut [u8],
+    res: &mut [u8],
+) -> Result<(), Refusal>
+    ensures { Reads image.now memory.old state.old res.old (record { number = answered result; state = state.new; memory = memory.new; result = res.new }) }
+{
+    if state.len() != state::SIZE {
+        return Err(Refusal::NotAsAsked);
+    }
+    if res.len() != RESULT {
+        return Err(Refusal::NotAsAsked);
+    }
+    let loaded = image::read(image, memory)?;
+    // both buffers are as long as what fills them
+    state::give(loaded.machine, state).unwrap();
+    numbers::write::<u64>(res, RESULT_BUDGET, loaded.budget as u64).unwrap();
+    numbers::write::<u64>(res, RESULT_SUM, loaded.sum).unwrap();
+    Ok(())
+}
+
+// Reads an image into the lent memory, and hands out the machine, the budget and the memory sum. A call that answers another number
+// than 0 touches nothing.
 pub fn glidecotton_read_image(
     image: &[u8],
     memory: &mut [u8],
@@ -21,20 +47,5 @@ pub fn glidecotton_read_image(
 ) -> u64
     ensures { let answer = result in Reads image.now memory.old state.old res.old (record { number = answer; state = state.new; memory = memory.new; result = res.new }) }
 {
-    if state.len() != state::SIZE {
-        return 2;
-    }
-    if res.len() != RESULT {
-        return 2;
-    }
-    let loaded = image::read(image, memory);
-    let verdict = loaded.verdict;
-    if let image::Verdict::Refused(number) = verdict {
-        return number as u64;
-    }
-    let machine = loaded.machine;
-    state::give(machine, state);
-    numbers::write_eight(res, RESULT_BUDGET, loaded.budget as u64);
-    numbers::write_eight(res, RESULT_SUM, loaded.sum);
-    0
+    state::answered(read_image(image, memory, state, res))
 }

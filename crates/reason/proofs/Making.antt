@@ -3,57 +3,66 @@ use mathlib.Core.List.{List, [], ◌∷◌, ◌++◌}
 use mathlib.Core.Path.{◌≡◌, sym, ap, subst, ◌∙◌}
 use Prim.Native.Nat.{ℕ, ◌+◌, ◌-◌, ◌*◌, ◌≤◌}
 use native.Mathlib.Omega.{arith}
+use Rattle.std.proofs.Common.{Result, Ok, Err, Option, Some, None, option_map, refl, Bool, true, false}
+use Rattle.plain.specs.Answer.{refuses, gives}
+use Rattle.plain.specs.Choice.{pick}
 use lib.ListN.{length, drop, replicate, length-replicate, replicate-append-replicate}
 use lib.Seq.{sets-eq, drop_at}
 use Rattle.plain.specs.Zeros.{padded}
 use Rattle.numbers.specs.Bytes.{number_at}
 use Rattle.numbers.specs.Putting.{Appended}
-use Rattle.numbers.specs.Slices.{says_found, read_at}
-use Rattle.numbers.specs.declared.Found.{Found}
-use Rattle.numbers.specs.declared.Found.TheVariants.{Number, Outside}
+use Rattle.numbers.specs.Slices.{inside, too_short, says_found, read_at}
 use Rattle.image.specs.Format.{limits, count_width}
 use Rattle.image.specs.Judging.{Finding, Judges, says_judged}
 use Rattle.image.specs.declared.Section.{Section}
 use Rattle.image.specs.declared.Fault.{Fault}
 use Rattle.image.specs.declared.Limits.{Limits}
 use Rattle.image.specs.declared.Spans.{Spans}
-use Rattle.image.specs.declared.Judged.{Judged}
-use Rattle.image.specs.declared.Judged.TheVariants.{Bad, Good}
-use Rattle.reason.specs.Words.{filled}
+use Rattle.reason.specs.Words.{characters, filled}
 use Rattle.reason.specs.Reason.{found_at, short_told, missing_told, cut_told, fault_told, good_told, finding_told, reason_of, line_of, room}
-use Rattle.reason.proofs.Found.{was-inside, was-outside}
 
 -- the same words with numbers known by other names
 pub retold : {before after : List ℕ} {from next : ℕ} (words xs ys : List ℕ) → xs ≡ ys
     → Appended before from (filled words xs) after next → Appended before from (filled words ys) after next
 retold {before} {after} {from} {next} words xs ys e = subst (λ (ns : List ℕ). Appended before from (filled words ns) after next) e
 
-pub told-as : {before after : List ℕ} {from next : ℕ} {xs ys : List ℕ} → xs ≡ ys → Appended before from xs after next → Appended before from ys after next
-told-as {before} {after} {from} {next} e = subst (λ (t : List ℕ). Appended before from t after next) e
+pub told_as : {before after : List ℕ} {from next : ℕ} {xs ys : List ℕ} → xs ≡ ys → Appended before from xs after next → Appended before from ys after next
+told_as {before} {after} {from} {next} e = subst (λ (t : List ℕ). Appended before from t after next) e
 
 -- what was put for a fault that is known
-pub fault-put : {before after : List ℕ} {next : ℕ} (file : List ℕ) (f g : Fault) → f ≡ g → Appended before 0 (fault_told file g) after next
+pub fault_put : {before after : List ℕ} {next : ℕ} (file : List ℕ) (f g : Fault) → f ≡ g → Appended before 0 (fault_told file g) after next
     → Appended before 0 (fault_told file f) after next
-fault-put file f g e = told-as (ap (fault_told file) (sym e))
+fault_put file f g e = told_as (ap (fault_told file) (sym e))
+
+-- what follows the place where a section's elements are cut
+abbrev missing_words : List ℕ
+missing_words = characters "the count # asks for # bytes after it, and the file has # bytes\n"
 
 module _ (file : List ℕ) (s : Section) (at : ℕ) where
-  pub count-numbers : (n : ℕ) (l : Limits) → n ≡ found_at file at → l ≡ limits s
+  pub count_numbers : (n : ℕ) (l : Limits) → n ≡ found_at file at → l ≡ limits s
       → n ∷ l.fewest ∷ l.most ∷ [] ≡ found_at file at ∷ (limits s).fewest ∷ (limits s).most ∷ []
-  count-numbers n l is-n is-l = λ i. is-n i ∷ (is-l i).fewest ∷ (is-l i).most ∷ []
+  count_numbers n l is-n is-l = λ i. is-n i ∷ (is-l i).fewest ∷ (is-l i).most ∷ []
 
-  module _ (r : Found) (is : says_found r ≡ read_at count_width file at) where
-    pub cut-count : r ≡ Outside → short_told file ≡ cut_told file s at
-    cut-count e = simp (was-outside file at r is e)
+  -- what was put for a section that the file is cut in
+  module _ (r : Option ℕ) (is : says_found (option_map (λ n. n) r) ≡ read_at count_width file at) {before after : List ℕ} {from next : ℕ} where
+    pub cut_count : r ≡ None → Appended before from (short_told file) after next → Appended before from (cut_told file s at) after next
+    unfolding read_at
+    cut_count e = told_as (by-test (inside count_width file at) (ap (λ (o : Option ℕ). says_found (option_map (λ n. n) o)) (sym e) ∙ is))
+      where
+        by-test : (t : Bool) → refuses too_short ≡ pick t (gives (number_at count_width file at)) (refuses too_short)
+            → short_told file ≡ pick t (missing_told file s (number_at count_width file at)) (short_told file)
+        by-test true same = cc
+        by-test false same = refl
 
-    module _ (n : ℕ) (e : r ≡ Number n) where
-      pub cut-elements : missing_told file s (number_at count_width file at) ≡ cut_told file s at
-      cut-elements = simp (was-inside file at r is n e).0
-
-      pub cut-numbers : (l : Limits) → l ≡ limits s
-          → n ∷ l.width * n ∷ length file ∷ [] ≡ number_at count_width file at ∷ (limits s).width * number_at count_width file at ∷ length file ∷ []
-      cut-numbers l is-l =
-          let is-n = (was-inside file at r is n e).1 in
-          λ i. is-n i ∷ (is-l i).width * is-n i ∷ length file ∷ []
+    pub cut_elements : (n : ℕ) (l : Limits) → r ≡ Some n → l ≡ limits s
+        → Appended before from (filled missing_words (n ∷ l.width * n ∷ length file ∷ [])) after next → Appended before from (cut_told file s at) after next
+    unfolding read_at
+    cut_elements n l e is-l = told_as (by-test (inside count_width file at) (ap (λ (o : Option ℕ). says_found (option_map (λ n. n) o)) (sym e) ∙ is))
+      where
+        by-test : (t : Bool) → gives n ≡ pick t (gives (number_at count_width file at)) (refuses too_short)
+            → filled missing_words (n ∷ l.width * n ∷ length file ∷ []) ≡ pick t (missing_told file s (number_at count_width file at)) (short_told file)
+        by-test true same = let is-n : n ≡ number_at count_width file at = cc in λ i. filled missing_words (is-n i ∷ (is-l i).width * is-n i ∷ length file ∷ [])
+        by-test false same = cc
 
 -- ---- the whole line
 
@@ -77,17 +86,17 @@ line_made line m count fits added =
     ∙ ap (λ (l : List ℕ). line ++ l) (zeros-after room (length line) (omega arith)) in
     λ i. record { text = text i; count = counted i }
 
-module _ (file : List ℕ) (j : Judged) (judges : Judges file j) (m : List ℕ) (count : ℕ) (fits : count ≤ room) where
+module _ (file : List ℕ) (j : Result Spans Fault) (judges : Judges file j) (m : List ℕ) (count : ℕ) (fits : count ≤ room) where
   as-found : (f : Finding Spans) → says_judged j ≡ f → Appended (replicate room 0) 0 (finding_told file f) m count
       → record { text = m; count = count } ≡ line_of (reason_of file)
   unfolding reason_of
   as-found f e added =
       line_made (finding_told file f) m count fits added ∙ ap (λ (g : Finding Spans). line_of (finding_told file g)) (sym e ∙ judges.clause)
 
-  pub bad-line : (fault : Fault) → j ≡ Bad fault → Appended (replicate room 0) 0 (fault_told file fault) m count
+  pub bad_line : (fault : Fault) → j ≡ Err fault → Appended (replicate room 0) 0 (fault_told file fault) m count
       → record { text = m; count = count } ≡ line_of (reason_of file)
-  bad-line fault e = as-found (says_judged (Bad fault)) (ap says_judged e)
+  bad_line fault e = as-found (says_judged (Err fault)) (ap says_judged e)
 
-  pub good-line : (spans : Spans) → j ≡ Good spans → Appended (replicate room 0) 0 (good_told spans) m count
+  pub good_line : (spans : Spans) → j ≡ Ok spans → Appended (replicate room 0) 0 (good_told spans) m count
       → record { text = m; count = count } ≡ line_of (reason_of file)
-  good-line spans e = as-found (says_judged (Good spans)) (ap says_judged e)
+  good_line spans e = as-found (says_judged (Ok spans)) (ap says_judged e)

@@ -8,16 +8,13 @@ ghost use Rattle.reason.specs.Reason.{place_room, clause_room, room};
 use crate::words;
 use image::{Fault, Section, Spans};
 use machine::Machine;
-use numbers::Found;
 
 // The number that stands at a place, or 0 where the file ends before it does.
+#[tactic(auto, unfolding(numbers::specs::Slices::read_at))]
 fn found_at(file: &[u8], at: usize) -> u32
     ensures { result ≡ found_at file.now at }
 {
-    let Found::Number(number) = numbers::read_four(file, at) else {
-        return 0;
-    };
-    number
+    numbers::read::<u32>(file, at).unwrap_or(0)
 }
 
 // The section, and the byte of the file.
@@ -39,7 +36,7 @@ fn put_cut(text: &mut [u8], from: usize, file: &[u8], section: Section, at: usiz
     ensures { (result ≤ from + clause_room) × Appended text.old from (cut_told file.now section at) text.new result }
 {
     let length = file.len() as u64;
-    let Found::Number(count) = numbers::read_four(file, at) else {
+    let Some(count) = numbers::read::<u32>(file, at) else {
         let numbers = [length];
         return words::put(
             text,

@@ -7,12 +7,10 @@ mod words;
 ghost use Rattle.std.specs.Prelude.{◌≡◌};
 ghost use Rattle.reason.specs.Reason.{reason_of, line_of};
 
-use image::Judged;
-
 // Room for the longest line.
 const ROOM: usize = 200;
 
-// A line with its line feed: the first bytes of the text. The others are 0.
+// A line with its line feed: the first bytes of the text. The others are 0. Its length stands beside it, since there is no heap.
 #[derive(Clone, Copy)]
 pub struct Line {
     pub text: [u8; ROOM],
@@ -25,8 +23,8 @@ pub fn reason(file: &[u8]) -> Line
 {
     let mut text = [0u8; ROOM];
     let count = match image::judge(file) {
-        Judged::Bad(fault) => faults::put_fault(&mut text, file, fault),
-        Judged::Good(spans) => faults::put_good(&mut text, spans),
+        Ok(spans) => faults::put_good(&mut text, spans),
+        Err(fault) => faults::put_fault(&mut text, file, fault),
     };
     Line { text, count }
 }

@@ -5,14 +5,8 @@ use Rattle.plain.specs.Choice.{pick}
 use Rattle.machine.specs.declared.Ran.{Ran}
 use Rattle.report.specs.Text.{text_of, refusal_text}
 use Rattle.links.specs.Depths.{cells_depth}
-use Rattle.report.specs.declared.Printed.{Printed}
-use Rattle.report.specs.declared.Printed.TheVariants.{Text, Refused}
 
--- how long the text is, or the number of the refusal
-abbrev pub says_printed : Printed → Answer ℕ
-says_printed (Text count) = gives count
-says_printed (Refused number) = refuses number
-
+-- how long the text is, or the number of the refusal, and the buffer afterwards
 pub record Reported : Type 0 where
   pub printed : Answer ℕ
   pub out : List ℕ

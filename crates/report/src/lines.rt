@@ -1,14 +1,12 @@
 // The lines of a report, each put after the text so far; a function returns where the text then ends. Its caller knows that
 // there is room, so nothing is refused here.
-ghost use Rattle.std.specs.Prelude.{◌≡◌, ◌+◌, ◌*◌, ◌≤◌, length, take};
+ghost use Rattle.std.specs.Prelude.{◌≡◌, ◌+◌, ◌*◌, ◌≤◌, length};
 ghost use Rattle.numbers.specs.Putting.{Appended};
 ghost use Rattle.report.specs.Sizes.{longest_field, longest_line, cell_size};
-ghost use Rattle.links.specs.Depths.{cells_depth};
 ghost use Rattle.report.specs.Text.{field, line, cell_line, cell_lines, numbers_of};
 
 use crate::sizes::{CELL_DIGITS, FIELDS, LAST};
-use machine::{Machine, Ran};
-use numbers::Put;
+use machine::Ran;
 
 const SPACE: u8 = 0x20;
 
@@ -19,9 +17,7 @@ pub(crate) fn put_field(text: &mut [u8], at: usize, value: u64, end: u8) -> usiz
     requires { at + longest_field ≤ length text.old }
     ensures { (result ≤ at + longest_field) × Appended text.old at (field value end) text.new result }
 {
-    let Put::Until(last) = numbers::write_decimal(text, at, value) else {
-        return at;
-    };
+    let last = numbers::write_decimal(text, at, value).unwrap();
     text[last] = end;
     last + 1
 }
@@ -31,9 +27,7 @@ fn put_cell(text: &mut [u8], at: usize, value: u32) -> usize
     requires { at + cell_size ≤ length text.old }
     ensures { (result ≤ at + cell_size) × Appended text.old at (cell_line value) text.new result }
 {
-    let Put::Until(last) = numbers::write_hexadecimal(text, at, CELL_DIGITS, value) else {
-        return at;
-    };
+    let last = numbers::write_hexadecimal(text, at, CELL_DIGITS, value).unwrap();
     text[last] = LINE_FEED;
     last + 1
 }
@@ -67,29 +61,20 @@ pub(crate) fn put_line(text: &mut [u8], numbers: [u64; FIELDS]) -> usize
     ensures { (result ≤ longest_line) × Appended text.old 0 (line numbers) text.new result }
 {
     let mut at = 0;
-    let mut i = 0;
-    while i < LAST {
-        at = put_field(text, at, numbers[i], SPACE);
-        i += 1;
+    for &value in &numbers[..LAST] {
+        at = put_field(text, at, value, SPACE);
     }
     put_field(text, at, numbers[LAST], LINE_FEED)
 }
 
-// The lowest cells, the deepest first, each on its own line.
-pub(crate) fn put_cells(
-    text: &mut [u8],
-    from: usize,
-    cells: [u32; Machine::CELLS],
-    count: usize,
-) -> usize
-    requires { (from + count * cell_size ≤ length text.old) × (count ≤ cells_depth) }
-    ensures { (result ≤ from + count * cell_size) × Appended text.old from (cell_lines (take count cells)) text.new result }
+// Cells, the deepest first, each on its own line.
+pub(crate) fn put_cells(text: &mut [u8], from: usize, cells: &[u32]) -> usize
+    requires { from + length cells.now * cell_size ≤ length text.old }
+    ensures { (result ≤ from + length cells.now * cell_size) × Appended text.old from (cell_lines cells.now) text.new result }
 {
     let mut at = from;
-    let mut i = 0;
-    while i < count {
-        at = put_cell(text, at, cells[i]);
-        i += 1;
+    for &cell in cells {
+        at = put_cell(text, at, cell);
     }
     at
 }

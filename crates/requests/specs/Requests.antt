@@ -1,27 +1,19 @@
 -- The line that enters, by the numbers that decide it, and a line that is raised.
-use Rattle.std.specs.Prelude.{Bool, ℕ, ltb, leb, eqb}
+use Rattle.std.specs.Prelude.{Option, Some, None, Bool, ℕ, ltb, leb, eqb}
 use Rattle.plain.specs.Answer.{Answer, refuses, gives, not_as_asked}
 use Rattle.plain.specs.Choice.{pick, both}
 use Rattle.links.specs.Depths.{returns_depth, subroutines_depth}
 use Rattle.machine.specs.Lines.{Line, none, line, lowest_due, raised}
 use Rattle.machine.specs.declared.Lines.{Lines}
-use Rattle.requests.specs.declared.Due.{Due}
-use Rattle.requests.specs.declared.Due.TheVariants as due
-use Rattle.requests.specs.declared.Raised.{Raised}
-use Rattle.requests.specs.declared.Raised.TheVariants as told
 
-abbrev pub says_due : Due → Line
-says_due due.Nobody = none
-says_due (due.Line n) = line n
+abbrev pub says_due : Option ℕ → Line
+says_due None = none
+says_due (Some n) = line n
 
 -- with these lines, at these depths R and S
 unfoldable pub entering_with : Lines → ℕ → ℕ → Line
 entering_with lines r s =
     pick (both (eqb lines.block 0) (both (ltb r returns_depth) (ltb s subroutines_depth))) (lowest_due lines) none
-
-abbrev pub says_raised : Raised → Answer ℕ
-says_raised (told.Waiting requests) = gives requests
-says_raised (told.Refused number) = refuses number
 
 -- lines are numbered from 1 to 15
 abbrev pub is_line : ℕ → Bool

@@ -3,23 +3,10 @@
 
 ghost use Rattle.std.specs.Prelude.{◌≡◌, ◌-◌, ◌^◌, ◌<◌};
 ghost use Rattle.machine.specs.Lines.{lowest_due, serving};
-ghost use Rattle.requests.specs.Requests.{says_due, entering_with, says_raised, raised_by};
+ghost use Rattle.machine.specs.Refusals.{says};
+ghost use Rattle.requests.specs.Requests.{says_due, entering_with, raised_by};
 
-use machine::{Lines, Machine};
-
-// The line that enters.
-#[derive(Clone, Copy)]
-pub enum Due {
-    Nobody,
-    Line(u32),
-}
-
-// The requests that then wait.
-#[derive(Clone, Copy)]
-pub enum Raised {
-    Waiting(u32),
-    Refused(u32),
-}
+use machine::{Lines, Machine, Refusal};
 
 // Lines are numbered from 1 to this one.
 const LAST: u32 = 15;
@@ -29,49 +16,41 @@ fn bit(n: u32) -> u32
     requires { n < 32 }
     ensures { result ≡ 2 ^ n }
 {
-    let mut power = 1;
-    let mut i = 0;
-    while i < n {
-        power = power * 2;
-        i += 1;
-    }
-    power
+    1 << n
 }
 
-// The lowest line that waits and is let in. At pass n bit n of both stands last.
-pub fn lowest(lines: Lines) -> Due
+// The lowest line that waits and is let in, if there is one. At pass n bit n of both stands last.
+pub fn lowest(lines: Lines) -> Option<u32>
     ensures { says_due result ≡ lowest_due lines }
 {
     let mut waiting = lines.waiting;
     let mut mask = lines.mask;
-    let mut n = 0;
-    while n < LAST {
-        n += 1;
+    for n in 1..LAST + 1 {
         waiting = waiting / 2;
         mask = mask / 2;
         if waiting % 2 + mask % 2 == 2 {
-            return Due::Line(n);
+            return Some(n);
         }
     }
-    Due::Nobody
+    None
 }
 
 // None enters while a routine is in progress, and none without room.
-pub fn entering(lines: Lines, r: usize, s: usize) -> Due
+pub fn entering(lines: Lines, r: usize, s: usize) -> Option<u32>
     ensures { says_due result ≡ entering_with lines r s }
 {
     // first, for it is so nearly always
     if lines.waiting == 0 {
-        return Due::Nobody;
+        return None;
     }
     if lines.block != 0 {
-        return Due::Nobody;
+        return None;
     }
     if Machine::RETURNS <= r {
-        return Due::Nobody;
+        return None;
     }
     if Machine::SUBROUTINES <= s {
-        return Due::Nobody;
+        return None;
     }
     lowest(lines)
 }
@@ -102,19 +81,19 @@ pub fn serving(lines: Lines, n: u32) -> Lines
     }
 }
 
-// Twice is once. A number that is no line's is refused.
-pub fn raise(waiting: u32, line: u64) -> Raised
-    ensures { says_raised result ≡ raised_by line waiting }
+// The requests that wait once this line is raised. Twice is once. A number that is no line's is refused.
+pub fn raise(waiting: u32, line: u64) -> Result<u32, Refusal>
+    ensures { says result ≡ raised_by line waiting }
 {
     if line < 1 {
-        return Raised::Refused(2);
+        return Err(Refusal::NotAsAsked);
     }
     if (LAST as u64) < line {
-        return Raised::Refused(2);
+        return Err(Refusal::NotAsAsked);
     }
     let power = bit(line as u32);
     if waiting / power % 2 == 1 {
-        return Raised::Waiting(waiting);
+        return Ok(waiting);
     }
-    Raised::Waiting(waiting + power)
+    Ok(waiting + power)
 }

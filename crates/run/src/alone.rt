@@ -12,7 +12,7 @@ ghost use Rattle.run_words.specs.Notes.{with_thrown, with_lines};
 ghost use Rattle.machine.specs.State.{fresh_with, well_formed, Whole};
 
 use crate::Counted;
-use machine::{CYCLES, Cycles, Machine, Ran, Reach, Steps};
+use machine::{Cycles, Machine, Ran, Reach, Steps};
 use run_entry::{formed, served};
 use run_levels::{linked, parts, sums};
 use run_loop::round;
@@ -125,7 +125,6 @@ pub(crate) fn any(mem: &mut [u8], machine: &mut Machine, budget: u32, sum: &mut 
     requires { (acceptable mem.old machine.old budget ≡ true) × (sum.old ≤ most_sum) }
     ensures { (after_of mem.new (ran_of result.answer result.steps result.cycles machine.new) ≡ run_from alone by_itself budget mem.old machine.old 0 0) × (sum.new ≡ sum_after sum.old mem.old mem.new) }
 {
-    let costs = CYCLES;
     let mut cells = machine.cells;
     let mut returns = machine.links.returns;
     let mut rows = [[0u32; linked::ROW]; linked::ROWS];
@@ -138,7 +137,6 @@ pub(crate) fn any(mem: &mut [u8], machine: &mut Machine, budget: u32, sum: &mut 
         &mut returns,
         &mut rows,
         &mut copies,
-        &costs,
         start,
         budget,
         ALONE,
@@ -164,7 +162,6 @@ pub(crate) fn fresh(mem: &mut [u8], filled: [u32; Machine::CELLS], p: usize, bud
     requires { acceptable mem.old (fresh_with filled p) budget ≡ true }
     ensures { after_of mem.new result ≡ run_from alone by_itself budget mem.old (fresh_with filled p) 0 0 }
 {
-    let costs = CYCLES;
     let mut cells = filled;
     let mut returns = [0u32; Machine::RETURNS];
     let mut rows = [[0u32; linked::ROW]; linked::ROWS];
@@ -183,7 +180,6 @@ pub(crate) fn fresh(mem: &mut [u8], filled: [u32; Machine::CELLS], p: usize, bud
         &mut returns,
         &mut rows,
         &mut copies,
-        &costs,
         start,
         budget,
         ALONE,

@@ -3,23 +3,29 @@ ghost use Rattle.std.specs.Prelude.{◌≡◌, ℕ, ◌≤◌};
 ghost use Rattle.links.specs.Depths.{cells_depth};
 ghost use Rattle.machine.specs.Codes.{SHUFFLE, NOP, DROP, DUP, SWAP, OVER, NIP, ROT, PSP-AT, ZERO, DUP-NONZERO, ONE, TWO, LITERAL};
 ghost use Rattle.run_words.specs.Operations.{two_of};
-ghost use Rattle.run_words.specs.Answers.{says_done};
+ghost use Rattle.machine.specs.Refusals.{says};
 ghost use Rattle.run_words.specs.Promises.{Meets, cell_pushed, pushed_cells};
 
-use machine::Machine;
-use run_words::{Done, Stack};
+use machine::{Machine, Refusal};
+use run_words::Stack;
 use word::{OneCell, Outcome, TwoCells};
 
 // ( -- value )
-fn push(cells: &mut [u32; Machine::CELLS], value: u32, p: usize, flag: u32, next: u32) -> Done
+fn push(
+    cells: &mut [u32; Machine::CELLS],
+    value: u32,
+    p: usize,
+    flag: u32,
+    next: u32,
+) -> Result<Stack, Refusal>
     requires { p ≤ cells_depth }
-    ensures { (says_done result ≡ cell_pushed p flag next) × (cells.new ≡ pushed_cells cells.old p value) }
+    ensures { (says result ≡ cell_pushed p flag next) × (cells.new ≡ pushed_cells cells.old p value) }
 {
     if Machine::CELLS <= p {
-        return Done::Refused(8);
+        return Err(Refusal::CellsFull);
     }
     cells[p] = value;
-    Done::Went(Stack {
+    Ok(Stack {
         flag,
         counter: next,
         p: p + 1,
@@ -27,11 +33,16 @@ fn push(cells: &mut [u32; Machine::CELLS], value: u32, p: usize, flag: u32, next
 }
 
 // ( -- ) NOP
-pub fn nothing(cells: &mut [u32; Machine::CELLS], p: usize, flag: u32, next: u32) -> Done
+pub fn nothing(
+    cells: &mut [u32; Machine::CELLS],
+    p: usize,
+    flag: u32,
+    next: u32,
+) -> Result<Stack, Refusal>
     requires { p ≤ cells_depth }
-    ensures { (operand : ℕ) → Meets (SHUFFLE NOP) 0 operand next cells.old p flag cells.new (says_done result) }
+    ensures { (operand : ℕ) → Meets (SHUFFLE NOP) 0 operand next cells.old p flag cells.new (says result) }
 {
-    Done::Went(Stack {
+    Ok(Stack {
         flag,
         counter: next,
         p,
@@ -39,14 +50,19 @@ pub fn nothing(cells: &mut [u32; Machine::CELLS], p: usize, flag: u32, next: u32
 }
 
 // ( x -- )
-pub fn discard(cells: &mut [u32; Machine::CELLS], p: usize, flag: u32, next: u32) -> Done
+pub fn discard(
+    cells: &mut [u32; Machine::CELLS],
+    p: usize,
+    flag: u32,
+    next: u32,
+) -> Result<Stack, Refusal>
     requires { p ≤ cells_depth }
-    ensures { (operand : ℕ) → Meets (SHUFFLE DROP) 1 operand next cells.old p flag cells.new (says_done result) }
+    ensures { (operand : ℕ) → Meets (SHUFFLE DROP) 1 operand next cells.old p flag cells.new (says result) }
 {
     if p < 1 {
-        return Done::Refused(5);
+        return Err(Refusal::TooFewCells);
     }
-    Done::Went(Stack {
+    Ok(Stack {
         flag,
         counter: next,
         p: p - 1,
@@ -54,30 +70,40 @@ pub fn discard(cells: &mut [u32; Machine::CELLS], p: usize, flag: u32, next: u32
 }
 
 // ( x -- x x )
-pub fn dup(cells: &mut [u32; Machine::CELLS], p: usize, flag: u32, next: u32) -> Done
+pub fn dup(
+    cells: &mut [u32; Machine::CELLS],
+    p: usize,
+    flag: u32,
+    next: u32,
+) -> Result<Stack, Refusal>
     requires { p ≤ cells_depth }
-    ensures { (operand : ℕ) → Meets (SHUFFLE DUP) 1 operand next cells.old p flag cells.new (says_done result) }
+    ensures { (operand : ℕ) → Meets (SHUFFLE DUP) 1 operand next cells.old p flag cells.new (says result) }
 {
     if p < 1 {
-        return Done::Refused(5);
+        return Err(Refusal::TooFewCells);
     }
     let x = cells[p - 1];
     push(cells, x, p, flag, next)
 }
 
 // ( x y -- y x )
-pub fn swap(cells: &mut [u32; Machine::CELLS], p: usize, flag: u32, next: u32) -> Done
+pub fn swap(
+    cells: &mut [u32; Machine::CELLS],
+    p: usize,
+    flag: u32,
+    next: u32,
+) -> Result<Stack, Refusal>
     requires { p ≤ cells_depth }
-    ensures { (operand : ℕ) → Meets (SHUFFLE SWAP) 2 operand next cells.old p flag cells.new (says_done result) }
+    ensures { (operand : ℕ) → Meets (SHUFFLE SWAP) 2 operand next cells.old p flag cells.new (says result) }
 {
     if p < 2 {
-        return Done::Refused(5);
+        return Err(Refusal::TooFewCells);
     }
     let x = cells[p - 2];
     let y = cells[p - 1];
     cells[p - 2] = y;
     cells[p - 1] = x;
-    Done::Went(Stack {
+    Ok(Stack {
         flag,
         counter: next,
         p,
@@ -85,28 +111,38 @@ pub fn swap(cells: &mut [u32; Machine::CELLS], p: usize, flag: u32, next: u32) -
 }
 
 // ( x y -- x y x )
-pub fn over(cells: &mut [u32; Machine::CELLS], p: usize, flag: u32, next: u32) -> Done
+pub fn over(
+    cells: &mut [u32; Machine::CELLS],
+    p: usize,
+    flag: u32,
+    next: u32,
+) -> Result<Stack, Refusal>
     requires { p ≤ cells_depth }
-    ensures { (operand : ℕ) → Meets (SHUFFLE OVER) 2 operand next cells.old p flag cells.new (says_done result) }
+    ensures { (operand : ℕ) → Meets (SHUFFLE OVER) 2 operand next cells.old p flag cells.new (says result) }
 {
     if p < 2 {
-        return Done::Refused(5);
+        return Err(Refusal::TooFewCells);
     }
     let x = cells[p - 2];
     push(cells, x, p, flag, next)
 }
 
 // ( x y -- y )
-pub fn nip(cells: &mut [u32; Machine::CELLS], p: usize, flag: u32, next: u32) -> Done
+pub fn nip(
+    cells: &mut [u32; Machine::CELLS],
+    p: usize,
+    flag: u32,
+    next: u32,
+) -> Result<Stack, Refusal>
     requires { p ≤ cells_depth }
-    ensures { (operand : ℕ) → Meets (SHUFFLE NIP) 2 operand next cells.old p flag cells.new (says_done result) }
+    ensures { (operand : ℕ) → Meets (SHUFFLE NIP) 2 operand next cells.old p flag cells.new (says result) }
 {
     if p < 2 {
-        return Done::Refused(5);
+        return Err(Refusal::TooFewCells);
     }
     let y = cells[p - 1];
     cells[p - 2] = y;
-    Done::Went(Stack {
+    Ok(Stack {
         flag,
         counter: next,
         p: p - 1,
@@ -114,12 +150,17 @@ pub fn nip(cells: &mut [u32; Machine::CELLS], p: usize, flag: u32, next: u32) ->
 }
 
 // ( x y z -- y z x )
-pub fn rot(cells: &mut [u32; Machine::CELLS], p: usize, flag: u32, next: u32) -> Done
+pub fn rot(
+    cells: &mut [u32; Machine::CELLS],
+    p: usize,
+    flag: u32,
+    next: u32,
+) -> Result<Stack, Refusal>
     requires { p ≤ cells_depth }
-    ensures { (operand : ℕ) → Meets (SHUFFLE ROT) 3 operand next cells.old p flag cells.new (says_done result) }
+    ensures { (operand : ℕ) → Meets (SHUFFLE ROT) 3 operand next cells.old p flag cells.new (says result) }
 {
     if p < 3 {
-        return Done::Refused(5);
+        return Err(Refusal::TooFewCells);
     }
     let x = cells[p - 3];
     let y = cells[p - 2];
@@ -127,7 +168,7 @@ pub fn rot(cells: &mut [u32; Machine::CELLS], p: usize, flag: u32, next: u32) ->
     cells[p - 3] = y;
     cells[p - 2] = z;
     cells[p - 1] = x;
-    Done::Went(Stack {
+    Ok(Stack {
         flag,
         counter: next,
         p,
@@ -135,17 +176,27 @@ pub fn rot(cells: &mut [u32; Machine::CELLS], p: usize, flag: u32, next: u32) ->
 }
 
 // ( -- P ) PSP@
-pub fn depth(cells: &mut [u32; Machine::CELLS], p: usize, flag: u32, next: u32) -> Done
+pub fn depth(
+    cells: &mut [u32; Machine::CELLS],
+    p: usize,
+    flag: u32,
+    next: u32,
+) -> Result<Stack, Refusal>
     requires { p ≤ cells_depth }
-    ensures { (operand : ℕ) → Meets (SHUFFLE PSP-AT) 0 operand next cells.old p flag cells.new (says_done result) }
+    ensures { (operand : ℕ) → Meets (SHUFFLE PSP-AT) 0 operand next cells.old p flag cells.new (says result) }
 {
     push(cells, p as u32, p, flag, next)
 }
 
 // ( -- 0 )
-pub fn zero(cells: &mut [u32; Machine::CELLS], p: usize, flag: u32, next: u32) -> Done
+pub fn zero(
+    cells: &mut [u32; Machine::CELLS],
+    p: usize,
+    flag: u32,
+    next: u32,
+) -> Result<Stack, Refusal>
     requires { p ≤ cells_depth }
-    ensures { (operand : ℕ) → Meets (SHUFFLE ZERO) 0 operand next cells.old p flag cells.new (says_done result) }
+    ensures { (operand : ℕ) → Meets (SHUFFLE ZERO) 0 operand next cells.old p flag cells.new (says result) }
 {
     push(cells, 0, p, flag, next)
 }
@@ -157,24 +208,29 @@ pub fn literal(
     p: usize,
     flag: u32,
     next: u32,
-) -> Done
+) -> Result<Stack, Refusal>
     requires { p ≤ cells_depth }
-    ensures { Meets LITERAL 0 operand next cells.old p flag cells.new (says_done result) }
+    ensures { Meets LITERAL 0 operand next cells.old p flag cells.new (says result) }
 {
     push(cells, operand, p, flag, next)
 }
 
 // ( x -- x x | 0 )
-pub fn dup_nonzero(cells: &mut [u32; Machine::CELLS], p: usize, flag: u32, next: u32) -> Done
+pub fn dup_nonzero(
+    cells: &mut [u32; Machine::CELLS],
+    p: usize,
+    flag: u32,
+    next: u32,
+) -> Result<Stack, Refusal>
     requires { p ≤ cells_depth }
-    ensures { (operand : ℕ) → Meets (SHUFFLE DUP-NONZERO) 1 operand next cells.old p flag cells.new (says_done result) }
+    ensures { (operand : ℕ) → Meets (SHUFFLE DUP-NONZERO) 1 operand next cells.old p flag cells.new (says result) }
 {
     if p < 1 {
-        return Done::Refused(5);
+        return Err(Refusal::TooFewCells);
     }
     let x = cells[p - 1];
     if x == 0 {
-        return Done::Went(Stack {
+        return Ok(Stack {
             flag,
             counter: next,
             p,
@@ -184,17 +240,23 @@ pub fn dup_nonzero(cells: &mut [u32; Machine::CELLS], p: usize, flag: u32, next:
 }
 
 // ( x -- value ) arithmetic on one cell
-pub fn one(cells: &mut [u32; Machine::CELLS], op: OneCell, p: usize, flag: u32, next: u32) -> Done
+pub fn one(
+    cells: &mut [u32; Machine::CELLS],
+    op: OneCell,
+    p: usize,
+    flag: u32,
+    next: u32,
+) -> Result<Stack, Refusal>
     requires { p ≤ cells_depth }
-    ensures { (operand : ℕ) → Meets (ONE op) 1 operand next cells.old p flag cells.new (says_done result) }
+    ensures { (operand : ℕ) → Meets (ONE op) 1 operand next cells.old p flag cells.new (says result) }
 {
     if p < 1 {
-        return Done::Refused(5);
+        return Err(Refusal::TooFewCells);
     }
     let x = cells[p - 1];
     let changed = word::one_cell(op, x, flag);
     cells[p - 1] = changed.value;
-    Done::Went(Stack {
+    Ok(Stack {
         flag: changed.flag,
         counter: next,
         p,
@@ -228,12 +290,18 @@ fn two_of(code: u8) -> TwoCells
 }
 
 // ( x y -- value ) or ( x y -- under top ) arithmetic on two cells
-pub fn two(cells: &mut [u32; Machine::CELLS], code: u8, p: usize, flag: u32, next: u32) -> Done
+pub fn two(
+    cells: &mut [u32; Machine::CELLS],
+    code: u8,
+    p: usize,
+    flag: u32,
+    next: u32,
+) -> Result<Stack, Refusal>
     requires { p ≤ cells_depth }
-    ensures { (operand : ℕ) → Meets (TWO (two_of code)) 2 operand next cells.old p flag cells.new (says_done result) }
+    ensures { (operand : ℕ) → Meets (TWO (two_of code)) 2 operand next cells.old p flag cells.new (says result) }
 {
     if p < 2 {
-        return Done::Refused(5);
+        return Err(Refusal::TooFewCells);
     }
     let x = cells[p - 2];
     let y = cells[p - 1];
@@ -242,7 +310,7 @@ pub fn two(cells: &mut [u32; Machine::CELLS], code: u8, p: usize, flag: u32, nex
     match outcome {
         Outcome::Single(value, after) => {
             cells[p - 2] = value;
-            Done::Went(Stack {
+            Ok(Stack {
                 flag: after,
                 counter: next,
                 p: p - 1,
@@ -251,12 +319,12 @@ pub fn two(cells: &mut [u32; Machine::CELLS], code: u8, p: usize, flag: u32, nex
         Outcome::Double(under, top, after) => {
             cells[p - 2] = under;
             cells[p - 1] = top;
-            Done::Went(Stack {
+            Ok(Stack {
                 flag: after,
                 counter: next,
                 p,
             })
         }
-        Outcome::DivisorZero => Done::Refused(13),
+        Outcome::DivisorZero => Err(Refusal::DivisorZero),
     }
 }

@@ -1,12 +1,12 @@
 // The instructions that touch the parameter cells alone, by code.
 ghost use Rattle.std.specs.Prelude.{◌≤◌, ◌<◌};
 ghost use Rattle.links.specs.Depths.{cells_depth};
-ghost use Rattle.run_words.specs.Answers.{says_done};
+ghost use Rattle.machine.specs.Refusals.{says};
 ghost use Rattle.run_words.specs.Promises.{CarriesOut, Unlinked};
 
 use crate::{cells, jumps};
-use machine::Machine;
-use run_words::Done;
+use machine::{Machine, Refusal};
+use run_words::Stack;
 use word::OneCell;
 
 // BEQ and BRA
@@ -17,9 +17,9 @@ pub fn branches(
     cells: &mut [u32; Machine::CELLS],
     p: usize,
     flag: u32,
-) -> Done
+) -> Result<Stack, Refusal>
     requires { (p ≤ cells_depth) × (0x80 ≤ code) }
-    ensures { CarriesOut code operand next cells.old p flag cells.new (says_done result) }
+    ensures { CarriesOut code operand next cells.old p flag cells.new (says result) }
 {
     if 0xBF < code {
         return jumps::branch(cells, operand, p, flag, next);
@@ -35,9 +35,9 @@ pub fn on_cells(
     cells: &mut [u32; Machine::CELLS],
     p: usize,
     flag: u32,
-) -> Done
+) -> Result<Stack, Refusal>
     requires { (p ≤ cells_depth) × ((code < 0x80) × Unlinked code) }
-    ensures { CarriesOut code operand next cells.old p flag cells.new (says_done result) }
+    ensures { CarriesOut code operand next cells.old p flag cells.new (says result) }
 {
     match code {
         0x00 => cells::nothing(cells, p, flag, next),
@@ -84,6 +84,6 @@ pub fn on_cells(
         0x35 => cells::literal(cells, operand, p, flag, next),
         0x36 => cells::literal(cells, operand, p, flag, next),
         0x37 => jumps::jump(cells, p, flag, next),
-        _ => Done::Refused(4),
+        _ => Err(Refusal::UnknownCode),
     }
 }

@@ -2,22 +2,27 @@
 ghost use Rattle.std.specs.Prelude.{ℕ, ◌≤◌};
 ghost use Rattle.links.specs.Depths.{cells_depth};
 ghost use Rattle.machine.specs.Codes.{JUMP, JMP, BEQ, BRA};
-ghost use Rattle.run_words.specs.Answers.{says_done};
+ghost use Rattle.machine.specs.Refusals.{says};
 ghost use Rattle.run_words.specs.Promises.{Meets};
 
-use machine::Machine;
-use run_words::{Done, Stack};
+use machine::{Machine, Refusal};
+use run_words::Stack;
 
 // ( address -- )
-pub fn jump(cells: &mut [u32; Machine::CELLS], p: usize, flag: u32, next: u32) -> Done
+pub fn jump(
+    cells: &mut [u32; Machine::CELLS],
+    p: usize,
+    flag: u32,
+    next: u32,
+) -> Result<Stack, Refusal>
     requires { p ≤ cells_depth }
-    ensures { (operand : ℕ) → Meets (JUMP JMP) 1 operand next cells.old p flag cells.new (says_done result) }
+    ensures { (operand : ℕ) → Meets (JUMP JMP) 1 operand next cells.old p flag cells.new (says result) }
 {
     if p < 1 {
-        return Done::Refused(5);
+        return Err(Refusal::TooFewCells);
     }
     let to = cells[p - 1];
-    Done::Went(Stack {
+    Ok(Stack {
         flag,
         counter: to,
         p: p - 1,
@@ -31,22 +36,22 @@ pub fn branch_on_zero(
     p: usize,
     flag: u32,
     next: u32,
-) -> Done
+) -> Result<Stack, Refusal>
     requires { p ≤ cells_depth }
-    ensures { Meets (JUMP BEQ) 1 operand next cells.old p flag cells.new (says_done result) }
+    ensures { Meets (JUMP BEQ) 1 operand next cells.old p flag cells.new (says result) }
 {
     if p < 1 {
-        return Done::Refused(5);
+        return Err(Refusal::TooFewCells);
     }
     let x = cells[p - 1];
     if x == 0 {
-        return Done::Went(Stack {
+        return Ok(Stack {
             flag,
             counter: operand,
             p: p - 1,
         });
     }
-    Done::Went(Stack {
+    Ok(Stack {
         flag,
         counter: next,
         p: p - 1,
@@ -60,11 +65,11 @@ pub fn branch(
     p: usize,
     flag: u32,
     next: u32,
-) -> Done
+) -> Result<Stack, Refusal>
     requires { p ≤ cells_depth }
-    ensures { Meets (JUMP BRA) 0 operand next cells.old p flag cells.new (says_done result) }
+    ensures { Meets (JUMP BRA) 0 operand next cells.old p flag cells.new (says result) }
 {
-    Done::Went(Stack {
+    Ok(Stack {
         flag,
         counter: operand,
         p,

@@ -4,7 +4,6 @@ ghost use Rattle.run_words.specs.Levels.{in_rows, note_in, Laid};
 ghost use Rattle.run_words.specs.Rounds.{Takes, Served};
 
 use machine::{Cycles, Machine, Reach, Steps};
-use requests::Due;
 use run_instructions::tally;
 use run_levels::{linked, parts};
 use run_loop::round;
@@ -15,10 +14,9 @@ pub fn attend(rows: &mut [[u32; linked::ROW]; linked::ROWS]) -> bool
     ensures { Attends rows.old rows.new result }
 {
     let lines = linked::lines(rows);
-    let due = requests::lowest(lines);
-    let Due::Line(_) = due else {
+    if requests::lowest(lines).is_none() {
         return false;
-    };
+    }
     linked::heed(rows);
     true
 }
@@ -36,8 +34,7 @@ pub fn let_in(
     let r = at.r;
     let s = at.s;
     let lines = linked::lines(rows);
-    let due = requests::entering(lines, r, s);
-    let Due::Line(n) = due else {
+    let Some(n) = requests::entering(lines, r, s) else {
         return at;
     };
     // the level first: behind the return cell it costs a step of the stores (docs/SPEED.md)
@@ -57,12 +54,11 @@ pub fn served(
     returns: &mut [u32; Machine::RETURNS],
     rows: &mut [[u32; linked::ROW]; linked::ROWS],
     copies: &mut [usize; linked::COPIES],
-    costs: &[u32; 62],
     start: Pointers,
     left: u32,
     reach: Reach,
 ) -> Registers
-    requires { Takes reach mem.old (in_rows cells.old returns.old rows.old copies.old start) rows.old copies.old left costs.now }
+    requires { Takes reach mem.old (in_rows cells.old returns.old rows.old copies.old start) rows.old copies.old left }
     ensures { Served reach mem.old (in_rows cells.old returns.old rows.old copies.old start) left (note_in rows.old).lost mem.new cells.new returns.new rows.new copies.new result }
 {
     attend(rows);
@@ -76,7 +72,6 @@ pub fn served(
             returns,
             rows,
             copies,
-            costs,
             at,
             regs.left.0,
             reach,

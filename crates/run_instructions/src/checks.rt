@@ -1,88 +1,101 @@
 // The tests before an action on the linked stacks, each with its number, in the order of the numbers.
-ghost use Rattle.std.specs.Prelude.{◌≡◌, ◌≤◌};
-ghost use Rattle.links.specs.Depths.{cells_depth};
-ghost use Rattle.run_words.specs.Answers.{says_checked, says_exit, says_thrown};
+ghost use Rattle.std.specs.Prelude.{◌≡◌, ◌≤◌, ltb, leb};
+ghost use Rattle.plain.specs.Answer.{refuses, gives};
+ghost use Rattle.plain.specs.Choice.{pick};
+ghost use Rattle.links.specs.Depths.{cells_depth, returns_depth, subroutines_depth};
+ghost use Rattle.machine.specs.Refusals.{says};
+ghost use Rattle.run_words.specs.Answers.{says_exit};
 ghost use Rattle.run_words.specs.Verdicts.{pushable, readable, callable, catchable, throwable, exitable, returnable, s_after_pop, e_after_pop, e_after_drop_of};
 
-use machine::Machine;
-use run_words::{Checked, Exit, Throw, Thrown};
+use machine::{Machine, Refusal};
+use run_words::Exit;
+
+// As many parameter cells as are taken.
+fn cells_there(takes: usize, p: usize) -> Result<(), Refusal>
+    ensures { says result ≡ pick (ltb p takes) (refuses 5) (gives tt) }
+{
+    if p < takes {
+        return Err(Refusal::TooFewCells);
+    }
+    Ok(())
+}
+
+fn return_room(r: usize) -> Result<(), Refusal>
+    ensures { says result ≡ pick (leb returns_depth r) (refuses 9) (gives tt) }
+{
+    if Machine::RETURNS <= r {
+        return Err(Refusal::ReturnsFull);
+    }
+    Ok(())
+}
+
+fn level_room(s: usize) -> Result<(), Refusal>
+    ensures { says result ≡ pick (leb subroutines_depth s) (refuses 10) (gives tt) }
+{
+    if Machine::SUBROUTINES <= s {
+        return Err(Refusal::SubroutinesFull);
+    }
+    Ok(())
+}
 
 // >R
-pub fn can_push(p: usize, r: usize) -> Checked
-    ensures { says_checked result ≡ pushable p r }
+pub fn can_push(p: usize, r: usize) -> Result<(), Refusal>
+    ensures { says result ≡ pushable p r }
 {
-    if p < 1 {
-        return Checked::Refused(5);
-    }
-    if Machine::RETURNS <= r {
-        return Checked::Refused(9);
-    }
-    Checked::Fine
+    cells_there(1, p)?;
+    return_room(r)
 }
 
 // R@ and R>
-pub fn can_read(p: usize, r: usize) -> Checked
-    ensures { says_checked result ≡ readable p r }
+pub fn can_read(p: usize, r: usize) -> Result<(), Refusal>
+    ensures { says result ≡ readable p r }
 {
     if r == 0 {
-        return Checked::Refused(6);
+        return Err(Refusal::NoReturnCell);
     }
     if Machine::CELLS <= p {
-        return Checked::Refused(8);
+        return Err(Refusal::CellsFull);
     }
-    Checked::Fine
+    Ok(())
 }
 
 // JSL takes no cell, JSR one
-pub fn can_call(takes: usize, p: usize, r: usize, s: usize) -> Checked
-    ensures { says_checked result ≡ callable takes p r s }
+pub fn can_call(takes: usize, p: usize, r: usize, s: usize) -> Result<(), Refusal>
+    ensures { says result ≡ callable takes p r s }
 {
-    if p < takes {
-        return Checked::Refused(5);
-    }
-    if Machine::RETURNS <= r {
-        return Checked::Refused(9);
-    }
-    if Machine::SUBROUTINES <= s {
-        return Checked::Refused(10);
-    }
-    Checked::Fine
+    cells_there(takes, p)?;
+    return_room(r)?;
+    level_room(s)
 }
 
-pub fn can_catch(p: usize, r: usize, s: usize, e: usize) -> Checked
-    ensures { says_checked result ≡ catchable p r s e }
+pub fn can_catch(p: usize, r: usize, s: usize, e: usize) -> Result<(), Refusal>
+    ensures { says result ≡ catchable p r s e }
 {
-    if p < 1 {
-        return Checked::Refused(5);
-    }
-    if Machine::RETURNS <= r {
-        return Checked::Refused(9);
-    }
-    if Machine::SUBROUTINES <= s {
-        return Checked::Refused(10);
-    }
+    cells_there(1, p)?;
+    return_room(r)?;
+    level_room(s)?;
     if Machine::EXCEPTIONS <= e {
-        return Checked::Refused(11);
+        return Err(Refusal::ExceptionsFull);
     }
-    Checked::Fine
+    Ok(())
 }
 
-// THROW of 0 needs no exception level
-pub fn can_throw(cells: &[u32; Machine::CELLS], p: usize, e: usize) -> Thrown
+// What is thrown: nothing by THROW of 0, which needs no exception level.
+pub fn can_throw(cells: &[u32; Machine::CELLS], p: usize, e: usize) -> Result<Option<u32>, Refusal>
     requires { p ≤ cells_depth }
-    ensures { says_thrown result ≡ throwable cells.now p e }
+    ensures { says result ≡ throwable cells.now p e }
 {
     if p < 1 {
-        return Thrown::Refused(5);
+        return Err(Refusal::TooFewCells);
     }
     let n = cells[p - 1];
     if n == 0 {
-        return Thrown::Found(Throw::Zero);
+        return Ok(None);
     }
     if e == 0 {
-        return Thrown::Refused(7);
+        return Err(Refusal::NoExceptionLevel);
     }
-    Thrown::Found(Throw::Code(n))
+    Ok(Some(n))
 }
 
 // EXIT leaves the top level, or the program where there is none.
@@ -96,16 +109,16 @@ pub fn can_exit(s: usize) -> Exit
 }
 
 // RTI leaves the top level of a routine in progress.
-pub fn can_return(block: u32, s: usize) -> Checked
-    ensures { says_checked result ≡ returnable block s }
+pub fn can_return(block: u32, s: usize) -> Result<(), Refusal>
+    ensures { says result ≡ returnable block s }
 {
     if block == 0 {
-        return Checked::Refused(16);
+        return Err(Refusal::NoRoutine);
     }
     if s == 0 {
-        return Checked::Refused(16);
+        return Err(Refusal::NoRoutine);
     }
-    Checked::Fine
+    Ok(())
 }
 
 // S after R>, R being lowered already: the top level goes if R is not greater than its copy.

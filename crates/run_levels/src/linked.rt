@@ -1,6 +1,8 @@
 // The subroutine and the exception levels as the loop has them: a row of numbers for each level, its cells and its address; in a row
 // behind them the last THROW, what the memory lost, the interrupt lines, and registers while they are parked; and the copies of R, S and P beside.
-// No array of structs can be lent (docs/DECISIONS.md), and each further array costs a turn four to six instructions.
+// Each further array costs a turn four to six instructions (docs/DECISIONS.md).
+#![tactic(auto, using(crate::proofs::Rows::rows), unfolding(run_words::specs::Levels::note_in, run_words::specs::Levels::parked_in))]
+
 ghost use Rattle.std.specs.Prelude.{◌≡◌, ℕ, ◌+◌, ◌*◌, ◌%◌, ◌^◌, ◌<◌, List, slice_index_or, slice_set};
 ghost use Rattle.numbers.specs.Bytes.{number_at, bytes_of};
 ghost use Rattle.links.specs.Actions.{called_frame};
@@ -91,7 +93,7 @@ pub fn lost(rows: &[[u32; ROW]; ROWS]) -> u32
 pub fn lose(rows: &mut [[u32; ROW]; ROWS], more: u32)
     ensures { (copies : List ℕ) → Laid rows.old copies → Hold rows.new copies (frames_in rows.old copies) (levels_in rows.old copies) (with_lost (((note_in rows.old).lost + more) % 2 ^ 32) (note_in rows.old)) }
 {
-    rows[NOTE][2] = std::num::wrapping_add_u32(rows[NOTE][2], more);
+    rows[NOTE][2] = rows[NOTE][2].wrapping_add(more);
 }
 
 // The interrupt lines.

@@ -17,13 +17,11 @@ fn copy_front(from: &[u32], to: &mut [u32], count: usize)
     requires { (count ≤ length from.now) × (count ≤ length to.old) }
     ensures { (to.new ≡ take count from.now ++ drop count to.old) × All CellFits (take count from.now) }
 {
-    let mut n = 0;
-    while n < count {
-        to[n] = from[n];
-        n = n + 1;
-    }
+    to[..count].copy_from_slice(&from[..count]);
 }
 
+// A frame and a level have other fields, and stand in other rows and beside other copies: one function for both would
+// be a trait whose methods are the four functions below.
 fn put_frame(
     rows: &mut [[u32; linked::ROW]; linked::ROWS],
     copies: &mut [usize; linked::COPIES],
@@ -33,8 +31,7 @@ fn put_frame(
     requires { (n < frames_count) × Laid rows.old copies.old }
     ensures { Hold rows.new copies.new (slice_set (frames_in rows.old copies.old) n frame) (levels_in rows.old copies.old) (note_in rows.old) }
 {
-    let locals = frame.locals;
-    copy_front(&locals, &mut rows[n], Frame::LOCALS);
+    copy_front(&frame.locals, &mut rows[n], Frame::LOCALS);
     rows[n][Frame::LOCALS] = frame.address;
     copies[n] = frame.r;
 }
@@ -48,8 +45,7 @@ fn put_level(
     requires { (n < levels_count) × Laid rows.old copies.old }
     ensures { Hold rows.new copies.new (frames_in rows.old copies.old) (slice_set (levels_in rows.old copies.old) n level) (note_in rows.old) }
 {
-    let cells = level.cells;
-    copy_front(&cells, &mut rows[Links::FRAMES + n], Level::CELLS);
+    copy_front(&level.cells, &mut rows[Links::FRAMES + n], Level::CELLS);
     rows[Links::FRAMES + n][Frame::LOCALS] = level.address;
     copies[Links::FRAMES + n] = level.s;
     copies[Links::FRAMES + Links::LEVELS + n] = level.p;
@@ -64,7 +60,7 @@ fn frame_at(
     ensures { result ≡ slice_index_or (frames_in rows.now copies.now) n no_frame }
 {
     let mut locals = [0u32; Frame::LOCALS];
-    copy_front(&rows[n], &mut locals, Frame::LOCALS);
+    locals.copy_from_slice(&rows[n][..Frame::LOCALS]);
     Frame {
         locals,
         r: copies[n],
@@ -81,42 +77,12 @@ fn level_at(
     ensures { result ≡ slice_index_or (levels_in rows.now copies.now) n no_level }
 {
     let mut cells = [0u32; Level::CELLS];
-    copy_front(&rows[Links::FRAMES + n], &mut cells, Level::CELLS);
+    cells.copy_from_slice(&rows[Links::FRAMES + n][..Level::CELLS]);
     Level {
         cells,
         s: copies[Links::FRAMES + n],
         p: copies[Links::FRAMES + Links::LEVELS + n],
         address: rows[Links::FRAMES + n][Frame::LOCALS],
-    }
-}
-
-fn frames_apart(
-    frames: [Frame; Links::FRAMES],
-    rows: &mut [[u32; linked::ROW]; linked::ROWS],
-    copies: &mut [usize; linked::COPIES],
-)
-    requires { Laid rows.old copies.old }
-    ensures { Hold rows.new copies.new frames (levels_in rows.old copies.old) (note_in rows.old) }
-{
-    let mut n = 0;
-    while n < Links::FRAMES {
-        put_frame(rows, copies, n, frames[n]);
-        n = n + 1;
-    }
-}
-
-fn levels_apart(
-    levels: [Level; Links::LEVELS],
-    rows: &mut [[u32; linked::ROW]; linked::ROWS],
-    copies: &mut [usize; linked::COPIES],
-)
-    requires { Laid rows.old copies.old }
-    ensures { Hold rows.new copies.new (frames_in rows.old copies.old) levels (note_in rows.old) }
-{
-    let mut n = 0;
-    while n < Links::LEVELS {
-        put_level(rows, copies, n, levels[n]);
-        n = n + 1;
     }
 }
 
@@ -131,9 +97,13 @@ pub fn apart(
     ensures { Hold rows.new copies.new links.frames links.levels (with_lines lines (with_thrown thrown (note_in rows.old))) }
 {
     let frames = links.frames;
+    for s in 0..Links::FRAMES {
+        put_frame(rows, copies, s, frames[s]);
+    }
     let levels = links.levels;
-    frames_apart(frames, rows, copies);
-    levels_apart(levels, rows, copies);
+    for e in 0..Links::LEVELS {
+        put_level(rows, copies, e, levels[e]);
+    }
     linked::note(rows, thrown.address, thrown.code);
     linked::set_lines(rows, lines);
 }
@@ -165,6 +135,7 @@ pub fn left_in(regs: Registers) -> Pointers
     }
 }
 
+// A `for` in these two and no `from_fn`, by which the levels would stand once more on the stack (GLIDECOTTON_STACK bounds it).
 fn frames_whole(
     rows: &[[u32; linked::ROW]; linked::ROWS],
     copies: &[usize; linked::COPIES],
@@ -172,16 +143,9 @@ fn frames_whole(
     requires { Laid rows.now copies.now }
     ensures { result ≡ frames_in rows.now copies.now }
 {
-    let blank = Frame {
-        locals: [0u32; Frame::LOCALS],
-        r: 0,
-        address: 0,
-    };
-    let mut frames = [blank; Links::FRAMES];
-    let mut n = 0;
-    while n < Links::FRAMES {
-        frames[n] = frame_at(rows, copies, n);
-        n = n + 1;
+    let mut frames = [Frame::default(); Links::FRAMES];
+    for s in 0..Links::FRAMES {
+        frames[s] = frame_at(rows, copies, s);
     }
     frames
 }
@@ -193,17 +157,9 @@ fn levels_whole(
     requires { Laid rows.now copies.now }
     ensures { result ≡ levels_in rows.now copies.now }
 {
-    let blank = Level {
-        cells: [0u32; Level::CELLS],
-        s: 0,
-        p: 0,
-        address: 0,
-    };
-    let mut levels = [blank; Links::LEVELS];
-    let mut n = 0;
-    while n < Links::LEVELS {
-        levels[n] = level_at(rows, copies, n);
-        n = n + 1;
+    let mut levels = [Level::default(); Links::LEVELS];
+    for e in 0..Links::LEVELS {
+        levels[e] = level_at(rows, copies, e);
     }
     levels
 }

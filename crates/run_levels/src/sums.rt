@@ -11,15 +11,13 @@ pub fn less(sum: u64, lost: u32) -> u64
     requires { sum ≤ most_sum }
     ensures { result ≡ (sum + (2 ^ 32 - lost % 2 ^ 32)) % 2 ^ 32 }
 {
-    std::num::wrapping_sub_u32(sum as u32, lost) as u64
+    u64::from((sum as u32).wrapping_sub(lost))
 }
 
 // By the stores of all four.
 pub fn lost_by_all(rows: &[[[u32; linked::ROW]; linked::ROWS]; Tasks::COUNT]) -> u32
     ensures { result ≡ sum_of (losses_in rows.now) % 2 ^ 32 }
 {
-    let first = linked::lost(&rows[0]);
-    let second = std::num::wrapping_add_u32(first, linked::lost(&rows[1]));
-    let third = std::num::wrapping_add_u32(second, linked::lost(&rows[2]));
-    std::num::wrapping_add_u32(third, linked::lost(&rows[3]))
+    rows.iter()
+        .fold(0, |sum, row| sum.wrapping_add(linked::lost(row)))
 }

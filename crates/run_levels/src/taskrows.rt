@@ -18,28 +18,21 @@ pub fn apart(
     requires { ((length cells.old ≡ tasks_count) × (length returns.old ≡ tasks_count)) × AllLaid rows.old copies.old }
     ensures { Seats cells.new returns.new rows.new copies.new result × ((machines_in cells.new returns.new rows.new copies.new result ≡ machines) × ((sum_of (losses_in rows.new) ≡ sum_of (losses_in rows.old)) × HeedsSame rows.old rows.new)) }
 {
-    let none = Pointers {
-        p: 0,
-        r: 0,
-        s: 0,
-        e: 0,
-        counter: 0,
-        flag: 0,
-    };
-    let mut saved = [none; Tasks::COUNT];
-    let mut t = 0;
-    while t < Tasks::COUNT {
+    let saved = std::array::from_fn(|t| parts::pointers(machines[t]));
+    for t in 0..Tasks::COUNT {
         let machine = machines[t];
-        let links = machine.links;
-        let cells_there = machine.cells;
-        let returns_there = links.returns;
-        cells[t] = cells_there;
-        returns[t] = returns_there;
-        let thrown = machine.thrown;
-        let lines = machine.lines;
-        parts::apart(links, thrown, lines, &mut rows[t], &mut copies[t]);
-        saved[t] = parts::pointers(machine);
-        t = t + 1;
+        // An array that is a field is stored by way of a variable.
+        let machine_cells = machine.cells;
+        let machine_returns = machine.links.returns;
+        cells[t] = machine_cells;
+        returns[t] = machine_returns;
+        parts::apart(
+            machine.links,
+            machine.thrown,
+            machine.lines,
+            &mut rows[t],
+            &mut copies[t],
+        );
     }
     saved
 }
@@ -54,12 +47,10 @@ pub fn whole(
     requires { AllLaid rows.now copies.now }
     ensures { result ≡ machines_in cells.now returns.now rows.now copies.now saved }
 {
-    let blank = Machine::fresh();
-    let mut machines = [blank; Tasks::COUNT];
-    let mut t = 0;
-    while t < Tasks::COUNT {
+    // A `for` and no `from_fn`, by which the four machines would stand twice more on the stack.
+    let mut machines = [Machine::fresh(); Tasks::COUNT];
+    for t in 0..Tasks::COUNT {
         machines[t] = parts::whole(&cells[t], &returns[t], &rows[t], &copies[t], saved[t]);
-        t = t + 1;
     }
     machines
 }

@@ -56,8 +56,8 @@ fn put_pair(bytes: &mut [u8], first: u32, second: u32)
     requires { length bytes.old ≡ 8 }
     ensures { bytes.new ≡ bytes_of 4 first ++ bytes_of 4 second }
 {
-    numbers::write_four(bytes, 0, first);
-    numbers::write_four(bytes, 4, second);
+    let _ = numbers::write::<u32>(bytes, 0, first as u64);
+    let _ = numbers::write::<u32>(bytes, 4, second as u64);
 }
 
 fn read_two_cells(
@@ -95,8 +95,8 @@ fn write_two_cells(
     let mut bytes = [0u8; 8];
     put_pair(&mut bytes, first, second);
     memory::write_number(&mut bytes, at - 4 * n, code, value);
-    let first_after = memory::read_long(&bytes, 0);
-    let second_after = memory::read_long(&bytes, 4);
+    let first_after = memory::read::<4>(&bytes, 0);
+    let second_after = memory::read::<4>(&bytes, 4);
     set_cell_at(rows, s, e, n, first_after);
     set_cell_at(rows, s, e, n + 1, second_after);
 }
@@ -107,8 +107,8 @@ fn read_byte(rows: &[[u32; linked::ROW]; linked::ROWS], s: usize, e: usize, at: 
     ensures { (copies : List ℕ) → Laid rows.now copies → result ≡ number_at 1 (bytes_of_cells (seen_in rows.now copies s e)) at }
 {
     let mut bytes = [0u8; 4];
-    numbers::write_four(&mut bytes, 0, cell_at(rows, s, e, at / 4));
-    memory::read_byte(&bytes, at % 4)
+    let _ = numbers::write::<u32>(&mut bytes, 0, cell_at(rows, s, e, at / 4) as u64);
+    memory::read::<1>(&bytes, at % 4)
 }
 
 fn write_byte(
@@ -122,9 +122,9 @@ fn write_byte(
     ensures { (copies : List ℕ) → Laid rows.old copies → Keep rows.old rows.new copies s e (overwritten (seen_in rows.old copies s e) at (bytes_of 1 value)) }
 {
     let mut bytes = [0u8; 4];
-    numbers::write_four(&mut bytes, 0, cell_at(rows, s, e, at / 4));
-    numbers::write_one(&mut bytes, at % 4, value);
-    set_cell_at(rows, s, e, at / 4, memory::read_long(&bytes, 0));
+    let _ = numbers::write::<u32>(&mut bytes, 0, cell_at(rows, s, e, at / 4) as u64);
+    let _ = numbers::write::<u8>(&mut bytes, at % 4, value as u64);
+    set_cell_at(rows, s, e, at / 4, memory::read::<4>(&bytes, 0));
 }
 
 // By the width that the code of a fetch names.

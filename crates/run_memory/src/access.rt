@@ -5,17 +5,17 @@ ghost use Rattle.machine.specs.Limits.{memory_length};
 ghost use Rattle.reach.specs.Spots.{width_of, spot_of, says_reached};
 ghost use Rattle.run_words.specs.Accesses.{reach_of, ReachedWithin};
 
-use machine::{Machine, Reach};
-use reach::{Reached, Spot};
+use machine::{Machine, Reach, Refusal};
+use reach::Spot;
 
 // No access has more than four bytes, and nearly every one is to shared bytes, which all are to a machine that is alone.
-fn spot_of(reach: Reach, code: u8, address: u32) -> Reached
+fn spot_of(reach: Reach, code: u8, address: u32) -> Result<Spot, Refusal>
     requires { reach.shared ≤ memory_length }
     ensures { (says_reached result ≡ spot_of reach (width_of code) address) × ReachedWithin reach (width_of code) result }
 {
     let at = address as usize;
     if at + 4 <= reach.shared {
-        return Reached::At(Spot::Memory(at));
+        return Ok(Spot::Memory(at));
     }
     reach::spot_of(reach, code, address)
 }
@@ -27,12 +27,12 @@ pub fn reach(
     takes: usize,
     code: u8,
     p: usize,
-) -> Reached
+) -> Result<Spot, Refusal>
     requires { (1 ≤ takes) × ((p ≤ cells_depth) × (reach.shared ≤ memory_length)) }
     ensures { (says_reached result ≡ reach_of reach takes (width_of code) cells.now p) × ReachedWithin reach (width_of code) result }
 {
     if p < takes {
-        return Reached::Refused(5);
+        return Err(Refusal::TooFewCells);
     }
     spot_of(reach, code, cells[p - 1])
 }

@@ -3,107 +3,70 @@ ghost use Rattle.std.specs.Prelude.{◌≡◌, ◌+◌, ◌<◌, ◌≤◌, leng
 ghost use Rattle.numbers.specs.Bytes.{byte_at};
 ghost use Rattle.machine.specs.Limits.{memory_length};
 ghost use Rattle.machine.specs.Reach.{is_foreign};
-ghost use Rattle.machine.specs.Codes.{bytes_with, entry_at};
+ghost use Rattle.machine.specs.Codes.{bytes_with, entry_at, number};
 ghost use Rattle.machine.specs.Fetch.{instruction_at};
 ghost use Rattle.reach.specs.Bars.{says_barred};
 ghost use Rattle.run_words.specs.Answers.{says_fetched};
 ghost use Rattle.run_words.specs.Promises.{Fetches, FetchedAt, OneByte};
 
 use crate::memory;
-use machine::{Machine, Reach};
-use reach::Barring;
+use machine::{Machine, Reach, Refusal};
+use reach::Bar;
 use run_words::Fetched;
 
-fn literal_byte(mem: &[u8], counter: u32) -> Fetched
-    requires { (counter < memory_length) × (length mem.now ≡ memory_length) }
-    ensures { FetchedAt 0x34 mem.now counter (says_fetched result) }
+// A code that N bytes follow, which spell its operand: the literals, and JSL with its 24-bit address.
+fn followed<const N: usize>(mem: &[u8], counter: u32, code: u8) -> Result<Fetched, Refusal>
+    requires { ((counter < memory_length) × (length mem.now ≡ memory_length)) × ((N ≤ 4) × ((entry_at code).operand ≡ number N)) }
+    ensures { FetchedAt code mem.now counter (says_fetched result) }
 {
     let at = counter as usize;
-    if Machine::MEMORY < at + 2 {
-        return Fetched::Refused(3);
+    if Machine::MEMORY < at + 1 + N {
+        return Err(Refusal::InstructionOutside);
     }
-    Fetched::Instruction(
-        0x34,
-        memory::read_byte(mem, at + 1),
-        std::num::wrapping_add_u32(counter, 2),
-    )
-}
-
-fn literal_word(mem: &[u8], counter: u32) -> Fetched
-    requires { (counter < memory_length) × (length mem.now ≡ memory_length) }
-    ensures { FetchedAt 0x35 mem.now counter (says_fetched result) }
-{
-    let at = counter as usize;
-    if Machine::MEMORY < at + 3 {
-        return Fetched::Refused(3);
-    }
-    Fetched::Instruction(
-        0x35,
-        memory::read_word(mem, at + 1),
-        std::num::wrapping_add_u32(counter, 3),
-    )
-}
-
-fn literal_long(mem: &[u8], counter: u32) -> Fetched
-    requires { (counter < memory_length) × (length mem.now ≡ memory_length) }
-    ensures { FetchedAt 0x36 mem.now counter (says_fetched result) }
-{
-    let at = counter as usize;
-    if Machine::MEMORY < at + 5 {
-        return Fetched::Refused(3);
-    }
-    Fetched::Instruction(
-        0x36,
-        memory::read_long(mem, at + 1),
-        std::num::wrapping_add_u32(counter, 5),
-    )
-}
-
-// JSL with its 24-bit address.
-fn subroutine(mem: &[u8], counter: u32) -> Fetched
-    requires { (counter < memory_length) × (length mem.now ≡ memory_length) }
-    ensures { FetchedAt 0x38 mem.now counter (says_fetched result) }
-{
-    let at = counter as usize;
-    if Machine::MEMORY < at + 4 {
-        return Fetched::Refused(3);
-    }
-    Fetched::Instruction(
-        0x38,
-        memory::read_triple(mem, at + 1),
-        std::num::wrapping_add_u32(counter, 4),
-    )
+    Ok(Fetched {
+        code,
+        operand: memory::read::<N>(mem, at + 1),
+        next: counter.wrapping_add(1 + N as u32),
+    })
 }
 
 // BEQ or BRA with the address that it names.
-fn branch(mem: &[u8], counter: u32, code: u8) -> Fetched
+fn branch(mem: &[u8], counter: u32, code: u8) -> Result<Fetched, Refusal>
     requires { (counter < memory_length) × ((length mem.now ≡ memory_length) × ((0x80 ≤ code) × (byte_at mem.now counter ≡ code))) }
     ensures { Fetches mem.now counter (says_fetched result) }
 {
     let at = counter as usize;
     if Machine::MEMORY < at + 2 {
-        return Fetched::Refused(3);
+        return Err(Refusal::InstructionOutside);
     }
-    let next = std::num::wrapping_add_u32(counter, 2);
-    let offset = memory::branch_offset(memory::read_word(mem, at));
-    Fetched::Instruction(code, std::num::wrapping_add_u32(next, offset), next)
+    let next = counter.wrapping_add(2);
+    let offset = memory::branch_offset(memory::read::<2>(mem, at));
+    Ok(Fetched {
+        code,
+        operand: next.wrapping_add(offset),
+        next,
+    })
 }
 
 // Every other code below 80 is one byte, the unknown ones too.
-fn plain(mem: &[u8], counter: u32, code: u8) -> Fetched
+fn plain(mem: &[u8], counter: u32, code: u8) -> Result<Fetched, Refusal>
     requires { (counter < memory_length) × ((length mem.now ≡ memory_length) × (((code < 0x80) × OneByte code) × (byte_at mem.now counter ≡ code))) }
     ensures { Fetches mem.now counter (says_fetched result) }
 {
-    Fetched::Instruction(code, 0, std::num::wrapping_add_u32(counter, 1))
+    Ok(Fetched {
+        code,
+        operand: 0,
+        next: counter.wrapping_add(1),
+    })
 }
 
-pub fn fetch(mem: &[u8], counter: u32) -> Fetched
+pub fn fetch(mem: &[u8], counter: u32) -> Result<Fetched, Refusal>
     requires { length mem.now ≡ memory_length }
     ensures { Fetches mem.now counter (says_fetched result) }
 {
     let at = counter as usize;
     if Machine::MEMORY <= at {
-        return Fetched::Refused(3);
+        return Err(Refusal::InstructionOutside);
     }
     let code = mem[at];
     // Most codes lie below those that bytes follow.
@@ -114,10 +77,10 @@ pub fn fetch(mem: &[u8], counter: u32) -> Fetched
         return branch(mem, counter, code);
     }
     match code {
-        0x34 => literal_byte(mem, counter),
-        0x35 => literal_word(mem, counter),
-        0x36 => literal_long(mem, counter),
-        0x38 => subroutine(mem, counter),
+        0x34 => followed::<1>(mem, counter, 0x34),
+        0x35 => followed::<2>(mem, counter, 0x35),
+        0x36 => followed::<4>(mem, counter, 0x36),
+        0x38 => followed::<3>(mem, counter, 0x38),
         _ => plain(mem, counter, code),
     }
 }
@@ -139,16 +102,14 @@ fn length_of(code: u8) -> u8
 }
 
 // What bars the instruction at the counter: its first byte is tested before it is read.
-fn barred(mem: &[u8], reach: Reach, counter: u32) -> Barring
+fn barred(mem: &[u8], reach: Reach, counter: u32) -> Option<Bar>
     requires { length mem.now ≡ memory_length }
     ensures { says_barred result ≡ (instruction_at reach mem.now counter).bar }
 {
-    let first = reach::barred(reach, counter, 1);
-    match first {
-        Barring::None => reach::barred(reach, counter, length_of(mem[counter as usize])),
-        Barring::Outside => Barring::Outside,
-        Barring::Foreign => Barring::Foreign,
+    if let Some(bar) = reach::barred(reach, counter, 1) {
+        return Some(bar);
     }
+    reach::barred(reach, counter, length_of(mem[counter as usize]))
 }
 
 // Whether a byte of the instruction at the counter is in another's part.

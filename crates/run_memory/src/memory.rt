@@ -1,4 +1,4 @@
-// Numbers in memory, the highest byte first: one function a width, for literals, JSL's address, branches and accesses alike.
+// Numbers in memory, the highest byte first: one function for literals, JSL's address, branches and accesses alike.
 ghost use Rattle.std.specs.Prelude.{◌≡◌, ◌+◌, ◌*◌, ◌/◌, ◌%◌, ◌^◌, ◌<◌, ◌≤◌, length};
 ghost use Rattle.std.proofs.lemmas.List.Edits.{sets};
 ghost use Rattle.numbers.specs.Bytes.{number_at, bytes_of};
@@ -8,32 +8,16 @@ ghost use Rattle.machine.specs.Sum.{sum_of};
 ghost use Rattle.reach.specs.Spots.{width_of};
 ghost use Rattle.run_words.specs.Losses.{IsStore, Puts};
 
-pub fn read_byte(mem: &[u8], at: usize) -> u32
-    requires { at + 1 ≤ length mem.now }
-    ensures { result ≡ number_at 1 mem.now at }
+// The number that N bytes from a place on spell.
+pub fn read<const N: usize>(mem: &[u8], at: usize) -> u32
+    requires { (N ≤ 4) × (at + N ≤ length mem.now) }
+    ensures { result ≡ number_at N mem.now at }
 {
-    numbers::one_byte(mem[at])
-}
-
-pub fn read_word(mem: &[u8], at: usize) -> u32
-    requires { at + 2 ≤ length mem.now }
-    ensures { result ≡ number_at 2 mem.now at }
-{
-    numbers::two_bytes(mem[at], mem[at + 1])
-}
-
-pub fn read_triple(mem: &[u8], at: usize) -> u32
-    requires { at + 3 ≤ length mem.now }
-    ensures { result ≡ number_at 3 mem.now at }
-{
-    numbers::three_bytes(mem[at], mem[at + 1], mem[at + 2])
-}
-
-pub fn read_long(mem: &[u8], at: usize) -> u32
-    requires { at + 4 ≤ length mem.now }
-    ensures { result ≡ number_at 4 mem.now at }
-{
-    numbers::four_bytes(mem[at], mem[at + 1], mem[at + 2], mem[at + 3])
+    let mut number = 0;
+    for i in 0..N {
+        number = number * 0x100 + mem[at + i] as u32;
+    }
+    number
 }
 
 // By the width that the code of a fetch names.
@@ -42,11 +26,9 @@ pub fn read_number(mem: &[u8], at: usize, code: u8) -> u32
     ensures { result ≡ number_at (size (width_of code)) mem.now at }
 {
     match code {
-        0x2D => read_long(mem, at),
-        0x2E => read_long(mem, at),
-        0x2F => read_word(mem, at),
-        0x30 => read_word(mem, at),
-        _ => read_byte(mem, at),
+        0x2D | 0x2E => read::<4>(mem, at),
+        0x2F | 0x30 => read::<2>(mem, at),
+        _ => read::<1>(mem, at),
     }
 }
 
@@ -55,7 +37,7 @@ pub fn branch_offset(number: u32) -> u32
     requires { number < 2 ^ 16 }
     ensures { result ≡ extended (number % 2 ^ 14) }
 {
-    std::num::wrapping_sub_u32((number + 0x2000) % 0x4000, 0x2000)
+    ((number + 0x2000) % 0x4000).wrapping_sub(0x2000)
 }
 
 // The low bits of a value, as many as the code of a store names, written to a slice that is no memory.
@@ -63,12 +45,13 @@ pub fn write_number(mem: &mut [u8], at: usize, code: u8, value: u32)
     requires { at + size (width_of code) ≤ length mem.old }
     ensures { mem.new ≡ sets mem.old at (bytes_of (size (width_of code)) value) }
 {
-    match code {
-        0x2D => numbers::write_four(mem, at, value),
-        0x2E => numbers::write_four(mem, at, value),
-        0x2F => numbers::write_two(mem, at, value),
-        0x30 => numbers::write_two(mem, at, value),
-        _ => numbers::write_one(mem, at, value),
+    // inside by what is asked: the error never comes
+    let _ = match code {
+        0x2D => numbers::write::<u32>(mem, at, value as u64),
+        0x2E => numbers::write::<u32>(mem, at, value as u64),
+        0x2F => numbers::write::<u16>(mem, at, value as u64),
+        0x30 => numbers::write::<u16>(mem, at, value as u64),
+        _ => numbers::write::<u8>(mem, at, value as u64),
     };
 }
 
@@ -97,7 +80,7 @@ fn low_byte(value: u32) -> u8
 fn with_byte(sum: u32, byte: u8) -> u32
     ensures { result ≡ (sum + byte) % 2 ^ 32 }
 {
-    std::num::wrapping_add_u32(sum, numbers::one_byte(byte))
+    sum.wrapping_add(byte as u32)
 }
 
 // A store of each width tells what the memory loses: the bytes that stand there, less the new ones. The bytes are known to lie inside, and
@@ -106,7 +89,7 @@ fn store_long(mem: &mut [u8], at: usize, value: u32) -> u32
     requires { at + 4 ≤ length mem.old }
     ensures { Puts 4 mem.old at value mem.new result }
 {
-    let less = std::num::wrapping_sub_u32(0, bytes_added(value));
+    let less = 0u32.wrapping_sub(bytes_added(value));
     let first = with_byte(less, mem[at]);
     let second = with_byte(first, mem[at + 1]);
     let third = with_byte(second, mem[at + 2]);
@@ -122,7 +105,7 @@ fn store_word(mem: &mut [u8], at: usize, value: u32) -> u32
     requires { at + 2 ≤ length mem.old }
     ensures { Puts 2 mem.old at value mem.new result }
 {
-    let less = std::num::wrapping_sub_u32(0, value / 0x100 % 0x100 + value % 0x100);
+    let less = 0u32.wrapping_sub(value / 0x100 % 0x100 + value % 0x100);
     let first = with_byte(less, mem[at]);
     let lost = with_byte(first, mem[at + 1]);
     mem[at] = low_byte(value / 0x100);
@@ -134,7 +117,7 @@ fn store_byte(mem: &mut [u8], at: usize, value: u32) -> u32
     requires { at + 1 ≤ length mem.old }
     ensures { Puts 1 mem.old at value mem.new result }
 {
-    let less = std::num::wrapping_sub_u32(0, value % 0x100);
+    let less = 0u32.wrapping_sub(value % 0x100);
     let lost = with_byte(less, mem[at]);
     mem[at] = low_byte(value);
     lost

@@ -1,4 +1,4 @@
--- A machine as the loop has it: a row of numbers for each level, since no array of structs can be lent.
+-- A machine as the loop has it: a row of numbers for each level.
 use Rattle.std.specs.Prelude.{◌≡◌, false, List, [], ◌∷◌, ◌++◌, ℕ, zero, suc, ◌+◌, ◌<◌, get_or, set, take, drop, length}
 use Rattle.plain.specs.All.{All}
 use Rattle.links.specs.Actions.{with_locals, with_cells}

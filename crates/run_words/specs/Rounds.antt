@@ -1,6 +1,5 @@
 -- What the loop asks, and what it promises.
 use Rattle.std.specs.Prelude.{◌≡◌, Bool, true, false, List, length, ℕ, ◌-◌, ◌*◌, ◌%◌, ◌^◌, ◌<◌, ◌≤◌}
-use Rattle.machine.specs.Codes.{cycle_table}
 use Rattle.machine.specs.Limits.{memory_length}
 use Rattle.machine.specs.Lines.{lowest_due}
 use Rattle.machine.specs.Run.{acceptable, ended}
@@ -16,24 +15,22 @@ use Rattle.run_words.specs.Registers.{machine_in}
 use Rattle.run_words.specs.Levels.{frames_in, levels_in, note_in, Laid}
 use Rattle.run_words.specs.declared.Registers.{Registers}
 
--- a machine that a run takes, in arrays of their lengths, and the prices; no line enters first, or in the whole run unless it is heeded
-pub record Starts (reach : Reach) (mem : List ℕ) (m : Machine) (rows : List (List ℕ)) (copies : List ℕ) (left : ℕ) (costs : List ℕ) (lines : Bool) : Type 0 where
+-- a machine that a run takes, in arrays of their lengths; no line enters first, or in the whole run unless it is heeded
+pub record Starts (reach : Reach) (mem : List ℕ) (m : Machine) (rows : List (List ℕ)) (copies : List ℕ) (left : ℕ) (lines : Bool) : Type 0 where
   pub accepted : acceptable mem m left ≡ true
   pub whole : Whole m
   pub laid : Laid rows copies
   pub bounded : Bounded reach
-  pub priced : costs ≡ cycle_table
   pub calm : Calm (lines_enter reach) m.lines m.links.r m.links.s
   pub unheeded : (note_in rows).heeds ≡ 0 → Quiet (lines_enter reach) m.lines
   pub unasked : lines ≡ false → (note_in rows).heeds ≡ 0
 
 -- the same of a run that lines may enter
-pub record Takes (reach : Reach) (mem : List ℕ) (m : Machine) (rows : List (List ℕ)) (copies : List ℕ) (left : ℕ) (costs : List ℕ) : Type 0 where
+pub record Takes (reach : Reach) (mem : List ℕ) (m : Machine) (rows : List (List ℕ)) (copies : List ℕ) (left : ℕ) : Type 0 where
   pub accepted : acceptable mem m left ≡ true
   pub whole : Whole m
   pub laid : Laid rows copies
   pub bounded : Bounded reach
-  pub priced : costs ≡ cycle_table
   pub lined : lines_enter reach ≡ true
 
 -- the run goes on from here: what is left of it is what it was at first

@@ -1,10 +1,8 @@
 -- What the tests before an action on the linked stacks answer, and the pointers after a drop.
-use Rattle.std.specs.Prelude.{List, ℕ, ◌-◌, ltb, leb, eqb, get_or}
+use Rattle.std.specs.Prelude.{Option, Some, None, List, ℕ, ◌-◌, ltb, leb, eqb, get_or}
 use Rattle.plain.specs.Answer.{Answer, refuses, gives}
 use Rattle.plain.specs.Choice.{pick}
 use Rattle.links.specs.Depths.{cells_depth, returns_depth, subroutines_depth, exceptions_depth}
-use Rattle.run_words.specs.declared.Throw.{Throw}
-use Rattle.run_words.specs.declared.Throw.TheVariants.{Zero, Code}
 
 unfoldable pub pushable : ℕ → ℕ → Answer (Unit {0})
 pushable p r = pick (ltb p 1) (refuses 5) (pick (leb returns_depth r) (refuses 9) (gives tt))
@@ -21,11 +19,12 @@ catchable p r s e =
     pick (ltb p 1) (refuses 5)
     (pick (leb returns_depth r) (refuses 9) (pick (leb subroutines_depth s) (refuses 10) (pick (leb exceptions_depth e) (refuses 11) (gives tt))))
 
-unfoldable pub throwable : List ℕ → ℕ → ℕ → Answer Throw
+-- what is thrown: nothing by THROW of 0
+unfoldable pub throwable : List ℕ → ℕ → ℕ → Answer (Option ℕ)
 throwable cells p e =
     pick (ltb p 1) (refuses 5)
-    (pick (eqb (get_or cells (p - 1) 0) 0) (gives Zero)
-    (pick (eqb e 0) (refuses 7) (gives (Code (get_or cells (p - 1) 0)))))
+    (pick (eqb (get_or cells (p - 1) 0) 0) (gives None)
+    (pick (eqb e 0) (refuses 7) (gives (Some (get_or cells (p - 1) 0)))))
 
 -- S = 0 is the end of the program
 unfoldable pub exitable : ℕ → Answer (Unit {0})

@@ -3,11 +3,12 @@
 
 use machine::{Cycles, Steps};
 
-// The instruction at the program counter: its code, its operand and the address of the following one; or a refusal's number.
+// The instruction at the program counter: its code, its operand and the address of the following one.
 #[derive(Clone, Copy)]
-pub enum Fetched {
-    Instruction(u8, u32, u32),
-    Refused(u32),
+pub struct Fetched {
+    pub code: u8,
+    pub operand: u32,
+    pub next: u32,
 }
 
 // The flag, the counter and the depth after an instruction that touches the parameter cells alone. The depth stands last:
@@ -19,39 +20,11 @@ pub struct Stack {
     pub p: usize,
 }
 
-// An instruction on the parameter cells was carried out, or refused.
-#[derive(Clone, Copy)]
-pub enum Done {
-    Went(Stack),
-    Refused(u32),
-}
-
-// Whether the linked stacks can do what an instruction asks.
-#[derive(Clone, Copy)]
-pub enum Checked {
-    Fine,
-    Refused(u32),
-}
-
 // What EXIT leaves: a subroutine level, or, with S = 0, the program.
-#[derive(Clone, Copy)]
+#[derive(Clone, Copy, Debug, PartialEq, Eq)]
 pub enum Exit {
     Frame,
     Program,
-}
-
-// What THROW takes from the parameter stack.
-#[derive(Clone, Copy)]
-pub enum Throw {
-    Zero,
-    Code(u32),
-}
-
-// THROW found something to throw, or is refused.
-#[derive(Clone, Copy)]
-pub enum Thrown {
-    Found(Throw),
-    Refused(u32),
 }
 
 // P, R, S, E, the program counter and the flag; what is left of the budget and the cycles so far; and, once the run is over,

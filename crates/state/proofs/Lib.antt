@@ -1,3 +1,4 @@
 pub mod Standing
 pub mod Putting
 pub mod Pairs
+pub mod Telling

@@ -1,4 +1,5 @@
 -- Laws of parts that are put after the bytes before them: a number that was written, an array that is put, the fields of a record in their order.
+use Rattle.std.specs.Prelude.{Result, Ok, Err, IsOk}
 use mathlib.Core.List.{List, [], ◌∷◌, ◌++◌, append_assoc, append-nil}
 use mathlib.Core.Path.{◌≡◌, refl, sym, ap, subst, ◌∙◌}
 use Prim.Native.Nat.{ℕ, ◌+◌, ◌*◌, ◌^◌, ◌≤◌, ◌<◌}
@@ -8,13 +9,13 @@ use native.Mathlib.Omega.{arith}
 use lib.ListN.{length, take, drop, get_or, length-append}
 use lib.Seq.{take-suc, take_at, take_all, length-take-le, sets, sets-eq, length-sets}
 use borrow.Author.Tests.{le-leb}
-use Rattle.plain.specs.Answer.{gives}
+use Rattle.plain.specs.Answer.{refuses, gives}
 use Rattle.numbers.specs.Bytes.{bytes_of}
-use Rattle.numbers.specs.Slices.{Wrote, write_at}
+use Rattle.numbers.specs.Slices.{too_short, says_written, Wrote, write_at}
+use Rattle.numbers.specs.declared.Outside.{Outside}
 use Rattle.numbers.specs.Laws.Bytes.{length-bytes}
 use Rattle.plain.specs.All.{All}
 use Rattle.state.specs.Parts.{Part, each, number, array, Field, fields_width, FieldsFit, field_bytes, fields}
-use Rattle.state.specs.Layout.{cell}
 use Rattle.state.specs.Places.{PartPut}
 use Rattle.state.specs.Promise.{Gives, filled}
 use Rattle.state.specs.Laws.Arrays.{each_more, all_more}
@@ -32,6 +33,15 @@ number_put n v l at w inside fit e =
       bytes-are = ap (take (at + n)) (written ∙ sets-eq vs l at (omega arith)) ∙ take_at (take at l ++ vs) (drop (at + length vs) l) (at + n) front;
       as_long = ap length written ∙ length-sets l at vs;
     }
+
+-- and nothing is outside there
+pub is_written : (n v : ℕ) (l : List ℕ) (at : ℕ) (done : Result (Unit {0}) Outside) (m : List ℕ) → at + n ≤ length l
+    → record { said = says_written done; bytes = m } ≡ write_at n v l at → IsOk done
+unfolding write_at
+is_written n v l at (Ok tt) m inside e = refl
+is_written n v l at (Err outside) m inside e =
+    let said : refuses too_short ≡ gives tt = ap (λ (w : Wrote). w.said) e ∙ simp (le-leb (at + n) (length l) inside) in
+    cc
 
 -- `Putting part l from n xs m i`: of an array of n elements that is put from its front, the first i have been put
 module _ {A : Type 0} (part : Part A) (l : List ℕ) (from n : ℕ) (xs : List A) where
@@ -55,13 +65,14 @@ module _ {A : Type 0} (part : Part A) (l : List ℕ) (from n : ℕ) (xs : List A
             };
       }
 
-  pub putting-more : {m : List ℕ} {i : ℕ} → Putting m i → i < n → (d : A) {k : List ℕ} → PartPut part m (from + i * part.width) (get_or xs i d) k → Putting k (i + 1)
-  putting-more {m} {i} p less d {k} q =
-      let x : A = get_or xs i d in
+  pub putting-more : {m : List ℕ} {i : ℕ} → Putting m i → i < n → (x d : A) → x ≡ get_or xs i d → {k : List ℕ}
+      → PartPut part m (from + i * part.width) x k → Putting k (i + 1)
+  putting-more {m} {i} p less x d is {k} q =
       let long : length xs ≡ n = p.long in
       let wider : i * part.width + part.width ≡ (i + 1) * part.width = sym (suc-mul i part.width) ∙ ap (λ (j : ℕ). j * part.width) (sym (add-one i)) in
       let end : from + (i + 1) * part.width ≡ from + i * part.width + part.width = omega arith in
-      let grown : take (i + 1) xs ≡ take i xs ++ (x ∷ []) = ap (λ (j : ℕ). take j xs) (add-one i) ∙ take-suc xs i d (omega arith) in
+      let grown : take (i + 1) xs ≡ take i xs ++ (x ∷ []) =
+      ap (λ (j : ℕ). take j xs) (add-one i) ∙ take-suc xs i d (omega arith) ∙ ap (λ (y : A). take i xs ++ (y ∷ [])) (sym is) in
       record {
         in_array = omega arith;
         long = long;
@@ -87,9 +98,10 @@ module _ {A : Type 0} (part : Part A) (l : List ℕ) (from n : ℕ) (xs : List A
       let long : length xs ≡ n = p.long in
       subst (λ (k : ℕ). PartPut (array k part) l from xs m) all (subst (λ (ys : List A). PartPut (array i part) l from ys m) (take_all i xs (omega arith)) p.done)
 
--- an array of cells of a known length
-pub put-counted : (n : ℕ) (xs : List ℕ) {l m : List ℕ} {at : ℕ} → n ≡ length xs → PartPut (array (length xs) cell) l at xs m → PartPut (array n cell) l at xs m
-put-counted n xs {l} {m} {at} e p = subst (λ (k : ℕ). PartPut (array k cell) l at xs m) (sym e) p
+-- an array of a known length
+pub put-counted : {A : Type 0} (part : Part A) (n : ℕ) (xs : List A) {l m : List ℕ} {at : ℕ} → n ≡ length xs
+    → PartPut (array (length xs) part) l at xs m → PartPut (array n part) l at xs m
+put-counted part n xs {l} {m} {at} e p = subst (λ (k : ℕ). PartPut (array k part) l at xs m) (sym e) p
 
 -- fields that are put so many bytes after the place, each where the one before it ends
 infixr 5 ◌then◌

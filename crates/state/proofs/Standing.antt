@@ -1,4 +1,5 @@
 -- Laws of parts that stand in a state: a number that was read, an array that is filled, the fields of a record one after the other.
+use Rattle.std.specs.Prelude.{Option, Some, None, IsSome, option_map}
 use mathlib.Core.List.{List, [], ◌∷◌, ◌++◌}
 use mathlib.Core.Path.{◌≡◌, refl, sym, ap, subst, ◌∙◌}
 use Prim.Native.Nat.{ℕ, ◌+◌, ◌*◌, ◌≤◌, ◌<◌}
@@ -8,9 +9,9 @@ use native.Mathlib.Omega.{arith}
 use lib.ListN.{length, take, drop, set, length-set}
 use lib.Seq.{drop-drop, take-add, take-suc-set, take_all, length-take-le}
 use borrow.Author.Tests.{le-leb}
-use Rattle.plain.specs.Answer.{refuses, gives}
+use Rattle.plain.specs.Answer.{gives}
 use Rattle.numbers.specs.Bytes.{number_at}
-use Rattle.numbers.specs.Slices.{read_at}
+use Rattle.numbers.specs.Slices.{says_found, read_at}
 use Rattle.numbers.specs.Laws.Bytes.{Bytes, number-below, spelled-number}
 use Rattle.plain.specs.All.{All}
 use Rattle.state.specs.Parts.{Part, each, number, array, Field, fields_width, FieldsFit, field_bytes, fields}
@@ -32,11 +33,12 @@ module _ (n : ℕ) (s : List ℕ) (at : ℕ) (inside : at + n ≤ length s) wher
         spelled = ap (number n).bytes is ∙ spelled-number n s at bytes inside;
       }
 
-  pub never-outside : (answer : ℕ) → refuses answer ≡ read_at n s at → ⊥
-  never-outside answer e =
-      let read = read_is in
-      let z : ◌≡◌ {A = ℕ} 0 1 = cc in
-      omega arith
+  pub there-is : (found : Option ℕ) → says_found (option_map (λ v. v) found) ≡ read_at n s at → IsSome found
+  there-is (Some v) e = refl
+  there-is None e = let read = read_is in cc
+
+  pub unwrapped : (found : Option ℕ) (v : ℕ) → found ≡ Some v → says_found (option_map (λ k. k) found) ≡ read_at n s at → gives v ≡ read_at n s at
+  unwrapped found v is e = ap (λ (o : Option ℕ). says_found (option_map (λ k. k) o)) (sym is) ∙ e
 
 -- bytes, and those that begin where they end
 followed : (s x y : List ℕ) (at n next m w : ℕ) → at + n ≡ next → n + m ≡ w

@@ -2,108 +2,90 @@
 // The order of the bytes is one definition (specs/Layout.antt).
 #![tactic(auto)]
 
+mod parts;
 mod places;
-mod reading;
-mod writing;
+mod stored;
+mod tasks;
 
+ghost use Rattle.std.specs.Prelude.{◌≡◌};
+ghost use Rattle.state.specs.Answered.{answered};
 ghost use Rattle.state.specs.Layout as layout;
 ghost use Rattle.machine.specs.Tasks.{tasks_in};
-ghost use Rattle.state.specs.Promise.{says_verdict, Takes, TakesTasks, Gives};
+ghost use Rattle.machine.specs.Refusals.{says};
+ghost use Rattle.state.specs.Promise.{says_taken, taken_machine, taken_tasks, Takes, TakesTasks, Gives};
 
-use machine::{Cycles, Machine, Steps, Tasks};
+use machine::{Cycles, Machine, Refusal, Steps, Tasks};
 pub use places::{MASK, RESULT, SIZE, TASKS, WAITING};
-
-// A buffer of the right length has no answer number.
-#[derive(Clone, Copy)]
-pub enum Verdict {
-    Good,
-    Refused(u32),
-}
-
-// After a refusal the machine is fresh.
-#[derive(Clone, Copy)]
-pub struct Taken {
-    pub verdict: Verdict,
-    pub machine: Machine,
-}
+use stored::Stored;
 
 // Every buffer of the right length spells one machine, well formed or not: a run judges that.
-pub fn take(state: &[u8]) -> Taken
-    ensures { Takes state.now (says_verdict result.verdict) result.machine }
+pub fn take(state: &[u8]) -> Result<Machine, Refusal>
+    ensures { Takes state.now (says_taken result) (taken_machine result) }
 {
     if state.len() != SIZE {
-        let machine = Machine::fresh();
-        return Taken {
-            verdict: Verdict::Refused(2),
-            machine,
-        };
+        return Err(Refusal::NotAsAsked);
     }
-    let machine = reading::machine_at(state, 0);
-    Taken {
-        verdict: Verdict::Good,
-        machine,
-    }
+    Ok(Machine::read(state, 0))
 }
 
 // The whole buffer is written, or nothing of it.
-pub fn give(machine: Machine, state: &mut [u8]) -> Verdict
-    ensures { Gives layout.state machine state.old (says_verdict result) state.new }
+pub fn give(machine: Machine, state: &mut [u8]) -> Result<(), Refusal>
+    ensures { Gives layout.state machine state.old (says result) state.new }
 {
     if state.len() != SIZE {
-        return Verdict::Refused(2);
+        return Err(Refusal::NotAsAsked);
     }
-    writing::put_machine(state, 0, machine);
-    Verdict::Good
-}
-
-// After a refusal the machines are fresh, and no task is ready.
-#[derive(Clone, Copy)]
-pub struct TakenTasks {
-    pub verdict: Verdict,
-    pub tasks: Tasks,
+    machine.put(state, 0);
+    Ok(())
 }
 
 // Every buffer of the right length spells four tasks, acceptable or not: a run of tasks judges that.
-pub fn take_tasks(bytes: &[u8]) -> TakenTasks
-    ensures { TakesTasks bytes.now (says_verdict result.verdict) result.tasks }
+pub fn take_tasks(bytes: &[u8]) -> Result<Tasks, Refusal>
+    ensures { TakesTasks bytes.now (says_taken result) (taken_tasks result) }
 {
     if bytes.len() != TASKS {
-        let tasks = reading::blank_tasks();
-        return TakenTasks {
-            verdict: Verdict::Refused(2),
-            tasks,
-        };
+        return Err(Refusal::NotAsAsked);
     }
-    let tasks = reading::tasks_at(bytes, 0);
-    TakenTasks {
-        verdict: Verdict::Good,
-        tasks,
-    }
+    Ok(tasks::read(bytes, 0))
 }
 
 // The whole buffer is written, or nothing of it.
-pub fn give_tasks(tasks: Tasks, bytes: &mut [u8]) -> Verdict
-    ensures { Gives layout.tasks (tasks_in tasks) bytes.old (says_verdict result) bytes.new }
+pub fn give_tasks(tasks: Tasks, bytes: &mut [u8]) -> Result<(), Refusal>
+    ensures { Gives layout.tasks (tasks_in tasks) bytes.old (says result) bytes.new }
 {
     if bytes.len() != TASKS {
-        return Verdict::Refused(2);
+        return Err(Refusal::NotAsAsked);
     }
-    let machines = tasks.machines;
-    let kept = tasks.kept;
-    writing::put_tasks(bytes, 0, machines, kept);
-    Verdict::Good
+    tasks::put(bytes, 0, &tasks.machines, &tasks.kept);
+    Ok(())
 }
 
 // What a run counted, and the memory sum. The whole buffer is written, or nothing of it.
-pub fn give_counts(answer: u32, steps: Steps, cycles: Cycles, sum: u64, res: &mut [u8]) -> Verdict
-    ensures { Gives layout.result (record { answer = answer; steps = steps; cycles = cycles; sum = sum }) res.old (says_verdict result) res.new }
+pub fn give_counts(
+    answer: u32,
+    steps: Steps,
+    cycles: Cycles,
+    sum: u64,
+    res: &mut [u8],
+) -> Result<(), Refusal>
+    ensures { Gives layout.result (record { answer = answer; steps = steps; cycles = cycles; sum = sum }) res.old (says result) res.new }
 {
     if res.len() != RESULT {
-        return Verdict::Refused(2);
+        return Err(Refusal::NotAsAsked);
     }
-    writing::put_pointer(res, places::RESULT_ANSWER, answer as usize);
-    writing::put_pointer(res, places::RESULT_STEPS, steps.0 as usize);
-    writing::put_pointer(res, places::RESULT_CYCLES, cycles.0 as usize);
-    writing::put_pointer(res, places::RESULT_SUM, sum as usize);
-    Verdict::Good
+    (answer as usize).put(res, places::RESULT_ANSWER);
+    (steps.0 as usize).put(res, places::RESULT_STEPS);
+    (cycles.0 as usize).put(res, places::RESULT_CYCLES);
+    (sum as usize).put(res, places::RESULT_SUM);
+    Ok(())
+}
+
+// The number that a host is told: 0, or the refusal's.
+pub fn answered(done: Result<(), Refusal>) -> u64
+    ensures { result ≡ answered done }
+{
+    match done {
+        Ok(()) => 0,
+        Err(why) => u32::from(why) as u64,
+    }
 }

@@ -1,8 +1,6 @@
 -- How much was read: no more than the buffer holds.
-use Rattle.std.specs.Prelude.{List, ℕ, ◌≤◌, length}
-use Rattle.streams.specs.declared.Input.{Input}
-use Rattle.streams.specs.declared.Input.TheVariants.{Bytes, Failed}
+use Rattle.std.specs.Prelude.{List, ℕ, ◌≤◌, length, Option, Some, None}
 
-abbrev pub Within : List ℕ → Input → Type 0
-Within buffer (Bytes count) = count ≤ length buffer
-Within buffer Failed = Unit {0}
+abbrev pub Within : List ℕ → Option ℕ → Type 0
+Within buffer (Some count) = count ≤ length buffer
+Within buffer None = Unit {0}

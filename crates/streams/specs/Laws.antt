@@ -1,11 +1,9 @@
 -- What was read is a part of the buffer that can be lent on.
-use Rattle.std.specs.Prelude.{List, ◌≡◌, ℕ, ◌≤◌, length, take}
+use Rattle.std.specs.Prelude.{List, ◌≡◌, ℕ, ◌≤◌, length, take, Option, Some}
 use Rattle.std.proofs.Common.{sym, subst, length-take-le}
 use Rattle.streams.specs.Input.{Within}
-use Rattle.streams.specs.declared.Input.{Input}
-use Rattle.streams.specs.declared.Input.TheVariants.{Bytes}
 
-module _ (buffer : List ℕ) (r : Input) (count : ℕ) (within : Within buffer r) (is : r ≡ Bytes count) where
+module _ (buffer : List ℕ) (r : Option ℕ) (count : ℕ) (within : Within buffer r) (is : r ≡ Some count) where
   pub read-inside : count ≤ length buffer
   read-inside = subst (Within buffer) is within
 

@@ -6,33 +6,29 @@ ghost use Rattle.streams.specs.Input.{Within};
 use std::io;
 use std::io::Read;
 
-// How many bytes were read, or that the input can't be read.
-#[derive(Clone, Copy)]
-pub enum Input {
-    Bytes(usize),
-    Failed,
-}
-
-// Reads until the buffer is full or the input ends. A read that fails is no end of the input: what came before it is no whole file.
-pub fn read(rt: &(impl io::Input + Eprint), buffer: &mut [u8]) -> Input
+// Reads until the buffer is full or the input ends, and answers how many bytes that were; none where a read failed, which is told.
+// A read that fails is no end of the input: what came before it is no whole file.
+pub fn read(rt: &(impl io::Input + Eprint), buffer: &mut [u8]) -> Option<usize>
     ensures { Within buffer.new result }
 {
     let mut input = rt.reader();
     let mut done = 0;
+    // no `for`: a pass goes on by as many bytes as its read brings
     while done < buffer.len() {
         let Ok(more) = input.read(&mut buffer[done..]) else {
             let _ = rt.eprintln("bench: the image can't be read");
-            return Input::Failed;
+            return None;
         };
         if more == 0 {
             break;
         }
         done += more;
     }
-    Input::Bytes(done)
+    Some(done)
 }
 
-// Writes the first bytes of a text.
+// Writes the first bytes of a text. The count stands beside the text, since a text cut to it would ask of each program a proof that its
+// count is within.
 pub fn write(rt: &(impl Print + Eprint), text: &[u8], count: usize) {
     if text.len() < count {
         return;

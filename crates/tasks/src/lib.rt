@@ -2,26 +2,49 @@
 // each exported function has the run compiled into it.
 #![tactic(auto)]
 
-ghost use Rattle.std.specs.Prelude.{◌≡◌, ◌≤◌};
-ghost use Rattle.machine.specs.Limits.{most_budget};
+ghost use Rattle.state.specs.Answered.{answered};
 ghost use Rattle.tasks.specs.Handed.{HandsTasks};
-ghost use Rattle.tasks.specs.Laws.Narrowed.{narrowed_to};
 
-use machine::{Machine, Tasks};
+use machine::{Machine, Refusal, Tasks};
 
-// A number that 32 bits do not hold stays one that is refused.
-fn narrowed(number: u64, most: u32) -> u32
-    requires { most ≤ most_budget }
-    ensures { result ≡ narrowed_to most number }
+// The least quantum and the least budget that a run refuses: one that 32 bits do not hold becomes this one.
+const TOO_LONG: u64 = Tasks::QUANTUM as u64 + 1;
+
+const TOO_MUCH: u64 = Machine::BUDGET as u64 + 1;
+
+// Both buffers of its own are measured first, so that a call that is refused touches nothing.
+fn run_tasks(
+    tasks: &mut [u8],
+    memory: &mut [u8],
+    quantum: u64,
+    budget: u64,
+    sum: u64,
+    res: &mut [u8],
+) -> Result<(), Refusal>
+    ensures { HandsTasks tasks.old memory.old quantum budget sum res.old (record { number = answered result; state = tasks.new; memory = memory.new; result = res.new }) }
 {
-    if (most as u64) < number {
-        return most + 1;
+    if res.len() != state::RESULT {
+        return Err(Refusal::NotAsAsked);
     }
-    number as u32
+    // lent, since tasks that are handed on by value stand on the stack once more (docs/DECISIONS.md)
+    let taken = state::take_tasks(tasks);
+    let four = match &taken {
+        Ok(four) => four,
+        Err(why) => return Err(*why),
+    };
+    let steps = quantum.min(TOO_LONG) as u32;
+    let most = budget.min(TOO_MUCH) as u32;
+    let mut after = *four;
+    let mut kept = sum;
+    let ran = turns::run_tasks_in(memory, &mut after, steps, most, &mut kept);
+    // both buffers are as long as what fills them
+    state::give_tasks(after, tasks).unwrap();
+    state::give_counts(ran.answer, ran.steps, ran.cycles, kept, res).unwrap();
+    Ok(())
 }
 
-// Runs four tasks that a host holds as bytes, with the sum of their memory, and hands all back, the sum in the result. Both buffers of its own are measured first,
-// so that a call that answers 2 touches nothing.
+// Runs four tasks that a host holds as bytes, with the sum of their memory, and hands all back, the sum in the result. A call that
+// answers 2 touches nothing.
 pub fn glidecotton_run_tasks(
     tasks: &mut [u8],
     memory: &mut [u8],
@@ -32,23 +55,5 @@ pub fn glidecotton_run_tasks(
 ) -> u64
     ensures { let answer = result in HandsTasks tasks.old memory.old quantum budget sum res.old (record { number = answer; state = tasks.new; memory = memory.new; result = res.new }) }
 {
-    if res.len() != state::RESULT {
-        return 2;
-    }
-    let taken = state::take_tasks(tasks);
-    let verdict = taken.verdict;
-    let state::Verdict::Good = verdict else {
-        return 2;
-    };
-    let four = taken.tasks;
-    let steps = narrowed(quantum, Tasks::QUANTUM);
-    let most = narrowed(budget, Machine::BUDGET);
-    let mut after = four;
-    let mut kept = sum;
-    let ran = turns::run_tasks_in(memory, &mut after, steps, most, &mut kept);
-    let counted = ran.steps;
-    let cycles = ran.cycles;
-    state::give_tasks(after, tasks);
-    state::give_counts(ran.answer, counted, cycles, kept, res);
-    0
+    state::answered(run_tasks(tasks, memory, quantum, budget, sum, res))
 }

@@ -11,8 +11,7 @@ ghost use Rattle.run_words.specs.Clocks.{ran_tasks_of, LinedTask};
 ghost use Rattle.run_words.specs.Levels.{machines_in, losses_in, AllLaid, HeedsSame, Seats};
 
 use crate::{Counted, ticks};
-use machine::{CYCLES, Cycles, Machine, RanTasks, Reach, Steps, Tasks};
-use order::Next;
+use machine::{Cycles, Machine, RanTasks, Reach, Steps, Tasks};
 use run_entry::{formed, served};
 use run_levels::{linked, parts, sums, taskrows};
 use run_loop::round;
@@ -115,7 +114,6 @@ pub(crate) fn turns(
     requires { ((tasks_acceptable mem.old (tasks_in tasks.old) quantum budget ≡ true) × (AllWhole (tasks_in tasks.old) × (sum.old ≤ most_sum))) × ((list.length tasks.old.machines ≡ tasks_count) × (list.length tasks.old.kept ≡ tasks_count)) }
     ensures { TurnsFrom quantum (start_of mem.old (tasks_in tasks.old) budget) (tasks_after_of mem.new (ran_tasks_of result.answer result.steps result.cycles tasks.new)) × (sum.new ≡ sum_after sum.old mem.old mem.new) }
 {
-    let costs = CYCLES;
     let mut kept = tasks.kept;
     let mut cells = [[0u32; Machine::CELLS]; Tasks::COUNT];
     let mut returns = [[0u32; Machine::RETURNS]; Tasks::COUNT];
@@ -135,7 +133,7 @@ pub(crate) fn turns(
     // asked for at a turn's end, so that the compiler does not ask every task beforehand
     let mut next = order::next_ready(&kept, clock.from);
     while 0 < clock.left.0 {
-        let Next::Task(t) = next else {
+        let Some(t) = next else {
             clock = ticks::idle(clock);
             continue;
         };
@@ -151,7 +149,6 @@ pub(crate) fn turns(
             &mut returns[t],
             &mut rows[t],
             &mut copies[t],
-            &costs,
             saved[t],
             length,
             reach_of(t),

@@ -11,7 +11,7 @@ use crate::{Changed, HALF, Outcome};
 fn is_less(x: u32, y: u32) -> bool
     ensures { result ≡ int_lt (signed x) (signed y) }
 {
-    std::num::wrapping_add_u32(x, HALF) < std::num::wrapping_add_u32(y, HALF)
+    x.wrapping_add(HALF) < y.wrapping_add(HALF)
 }
 
 // One cell tested: its truth in its place.

@@ -19,8 +19,8 @@ pub(crate) fn multiply_signed(x: u32, y: u32, flag: u32) -> Outcome
     let product = x as u64 * y as u64;
     let low = (product % 0x1_0000_0000) as u32;
     let high = (product / 0x1_0000_0000) as u32;
-    let less = std::num::wrapping_sub_u32(high, if_negative(x, y));
-    let least = std::num::wrapping_sub_u32(less, if_negative(y, x));
+    let less = high.wrapping_sub(if_negative(x, y));
+    let least = less.wrapping_sub(if_negative(y, x));
     Outcome::Double(low, least, flag)
 }
 

@@ -8,27 +8,13 @@ use crate::{HALF, Outcome};
 fn magnitude(x: u32) -> u32
     ensures { result ≡ magnitude_of x }
 {
-    if x < HALF {
-        x
-    } else {
-        std::num::wrapping_sub_u32(0, x)
-    }
+    if x < HALF { x } else { x.wrapping_neg() }
 }
 
 fn with_sign(negative: bool, size: u32) -> u32
     ensures { result ≡ with_sign negative size }
 {
-    if negative {
-        std::num::wrapping_sub_u32(0, size)
-    } else {
-        size
-    }
-}
-
-fn differ(a: bool, b: bool) -> bool
-    ensures { result ≡ apart a b }
-{
-    if a { !b } else { b }
+    if negative { size.wrapping_neg() } else { size }
 }
 
 // DIVS ( x y -- remainder quotient ): magnitudes are divided, so the quotient is cut toward zero.
@@ -43,7 +29,7 @@ pub(crate) fn divide_signed(x: u32, y: u32, flag: u32) -> Outcome
     let negative = HALF <= x;
     Outcome::Double(
         with_sign(negative, dividend % divisor),
-        with_sign(differ(negative, HALF <= y), dividend / divisor),
+        with_sign(negative != (HALF <= y), dividend / divisor),
         flag,
     )
 }

@@ -20,7 +20,7 @@ pub(crate) fn shift_left(x: u32, flag: u32) -> Changed
     ensures { result ≡ shift_left_of x flag }
 {
     Changed {
-        value: std::num::wrapping_add_u32(x, x),
+        value: x.wrapping_add(x),
         flag,
     }
 }
@@ -38,7 +38,7 @@ pub(crate) fn extend_byte(x: u32, flag: u32) -> Changed
 {
     let turned = (x % 0x100 + 0x80) % 0x100;
     Changed {
-        value: std::num::wrapping_sub_u32(turned, 0x80),
+        value: turned.wrapping_sub(0x80),
         flag,
     }
 }
@@ -49,7 +49,7 @@ pub(crate) fn extend_word(x: u32, flag: u32) -> Changed
 {
     let turned = (x % 0x1_0000 + 0x8000) % 0x1_0000;
     Changed {
-        value: std::num::wrapping_sub_u32(turned, 0x8000),
+        value: turned.wrapping_sub(0x8000),
         flag,
     }
 }

@@ -10,7 +10,7 @@ use crate::{Changed, Outcome};
 fn sum(x: u32, y: u32) -> Changed
     ensures { result ≡ sum_of (x + y) }
 {
-    let value = std::num::wrapping_add_u32(x, y);
+    let value = x.wrapping_add(y);
     Changed {
         value,
         flag: bit(value < x),
@@ -21,7 +21,7 @@ fn difference(x: u32, off: u32) -> Changed
     ensures { result ≡ difference_of x off }
 {
     Changed {
-        value: std::num::wrapping_sub_u32(x, off),
+        value: x.wrapping_sub(off),
         flag: bit(x < off),
     }
 }

@@ -1,14 +1,14 @@
 -- Every run is a history of completed instructions and entries of lines, and ends for a reason.
 use Rattle.std.specs.Prelude.{◌≡◌, Bool, List}
-use Rattle.std.proofs.Math.Path.{refl}
+use Rattle.std.proofs.Math.Path.{refl, sym}
 use Rattle.std.proofs.Math.Bool.{true, false}
 use Prim.Native.Nat.{ℕ, zero, suc, ◌+◌, ◌≤◌}
-use Rattle.std.proofs.Common.{arith}
-use Rattle.plain.specs.Choice.{pick}
+use Rattle.std.proofs.Common.{subst, arith}
 use Rattle.machine.specs.Lines.{Line, none, line, entering, entered_by, after_line, let_in}
 use Rattle.machine.specs.Step.{Stepped, refused, done, step_of}
-use Rattle.machine.specs.Run.{After, Manner, ended, passes, run_from}
+use Rattle.machine.specs.Run.{After, Manner, passes, run_from}
 use Rattle.machine.proofs.Laws.Entered.{settled}
+use Rattle.machine.proofs.Laws.Steps.{after_done, after_step, run-spent, run-step}
 use Rattle.machine.specs.declared.Machine.{Machine}
 use Rattle.machine.specs.declared.Reach.{Reach}
 use Rattle.demands.specs.History.{World, world, world_after, History, here, then, Moment, step, enters, host, others, steps_in}
@@ -43,7 +43,7 @@ module _ (reach : Reach) (manner : Manner) where
   onward : (b : Bool) (left : ℕ) (mem : List ℕ) (m : Machine) (n c : ℕ) (mem' : List ℕ) (m' : Machine) (k : ℕ) → step_of reach mem m ≡ done mem' m' k →
       (manner.lined ≡ true → entering m ≡ none) → passes manner.in_turns mem m ≡ b →
       Course reach manner left (world mem' m') (suc n) (c + k) (run_from reach manner left mem' m' (suc n) (c + k)) →
-      Course reach manner (suc left) (world mem m) n c (pick b (ended 1 mem' m' (suc n) (c + k)) (run_from reach manner left mem' m' (suc n) (c + k)))
+      Course reach manner (suc left) (world mem m) n c (after_done reach manner b left mem' m' (suc n) (c + k))
   onward true left mem m n c mem' m' k e quiet is rest =
       record {
         history = then (step reach k e) here;
@@ -67,12 +67,7 @@ module _ (reach : Reach) (manner : Manner) where
 
   course-step : (s : Stepped) (left : ℕ) (mem : List ℕ) (m : Machine) (n c : ℕ) → (manner.lined ≡ true → entering m ≡ none) → step_of reach mem m ≡ s →
       ((mem' : List ℕ) (m' : Machine) (n' c' : ℕ) → Course reach manner left (world mem' m') n' c' (run_from reach manner left mem' m' n' c')) →
-      Course reach manner (suc left) (world mem m) n c
-      (elim s as (λ x. After) [
-        | refused number ↦ ended number mem m n c
-        | done mem' m' cost ↦
-            pick (passes manner.in_turns mem m) (ended 1 mem' m' (suc n) (c + cost)) (run_from reach manner left mem' m' (suc n) (c + cost))
-      ])
+      Course reach manner (suc left) (world mem m) n c (after_step reach manner left mem m n c s)
   course-step (refused number) left mem m n c quiet e more =
       record {
         history = here;
@@ -125,9 +120,9 @@ module _ (reach : Reach) (manner : Manner) where
 
   pub course : (budget : ℕ) (mem : List ℕ) (m : Machine) (n c : ℕ) →
       Course reach manner budget (world mem m) n c (run_from reach manner budget mem m n c)
-  unfolding run_from
   course zero mem m n c =
-      record {
+      subst (λ (a : After). Course reach manner zero (world mem m) n c a) (sym (run-spent reach manner mem m n c))
+      (record {
         history = here;
         unbroken = tt;
         under = tt;
@@ -135,11 +130,13 @@ module _ (reach : Reach) (manner : Manner) where
         steps = omega arith;
         cycles = omega arith;
         reason = spent refl refl tt;
-      }
+      })
   course (suc budget) mem m n c =
       let now = let_in manner.lined m in
-      from-here manner.lined (suc budget) mem m n c _ refl
-      (course-step (step_of reach mem now) budget mem now n c (quiet-here manner.lined m) refl (course budget))
+      subst (λ (a : After). Course reach manner (suc budget) (world mem m) n c a)
+      (sym (run-step reach manner budget mem m n c))
+      (from-here manner.lined (suc budget) mem m n c _ refl
+      (course-step (step_of reach mem now) budget mem now n c (quiet-here manner.lined m) refl (course budget)))
 
 -- no more steps than the budget
 pub within : {reach : Reach} {in_turns : Bool} {budget : ℕ} {w : World} {a : After} {h : History w (world_after a)} → Reason reach in_turns budget a h →

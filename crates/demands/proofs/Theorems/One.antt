@@ -4,7 +4,8 @@ use Rattle.std.proofs.Common.{sym, subst, arith, eqb-true, leb→le, le→leb}
 use Rattle.plain.specs.Choice.{pick, both}
 use Rattle.plain.specs.Laws.Choice.{both-parts}
 use Rattle.machine.specs.Reach.{alone}
-use Rattle.machine.specs.Run.{After, by_itself, ended, run_from, run_of, acceptable}
+use Rattle.machine.specs.Run.{After, by_itself, run_of, acceptable}
+use Rattle.machine.proofs.Laws.Steps.{run-taken, run-declined}
 use Rattle.machine.specs.declared.Machine.{Machine}
 use Rattle.demands.specs.History.{World, world_after, History}
 use Rattle.demands.specs.Course.{Reason, spent, passed, stopped}
@@ -40,24 +41,24 @@ reason-answer budget a h (passed is most last) = absurd (none_passed h last)
 reason-answer budget a h (stopped e below none) = not-two a.ran.answer (refused-listed a.memory a.ran.machine a.ran.answer e)
 
 pub one : (mem : List ℕ) (m : Machine) (budget : ℕ) → One mem m budget (run_of mem m budget)
-unfolding run_of
 one mem m budget = go (acceptable mem m budget) refl
   where
-    go : (b : Bool) → acceptable mem m budget ≡ b →
-        One mem m budget (elim b as (λ x. After) [ true ↦ run_from alone by_itself budget mem m 0 0 | false ↦ ended 2 mem m 0 0 ])
+    go : (b : Bool) → acceptable mem m budget ≡ b → One mem m budget (run_of mem m budget)
     go true e =
         let c = course alone by_itself budget mem m 0 0 in
         let answer = reason-answer budget _ c.history c.reason in
-        record {
+        subst (One mem m budget) (sym (run-taken mem m budget e))
+        (record {
           answered = answer.0;
           within-budget = omega (arith, c.steps, within c.reason);
           untouched = λ two. absurd (answer.1 two);
           as_before = λ other. (e, c);
-        }
+        })
     go false e =
-        record {
+        subst (One mem m budget) (sym (run-declined mem m budget e))
+        (record {
           answered = tt;
           within-budget = omega arith;
           untouched = λ two. (e, refl);
           as_before = λ other. absurd (other refl);
-        }
+        })

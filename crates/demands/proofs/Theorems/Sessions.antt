@@ -3,10 +3,11 @@ use Rattle.std.specs.Prelude.{◌⊎◌, ◌≡◌, refl, Bool, true, false, Lis
 use Rattle.std.proofs.Common.{sym, ap, ◌∙◌, subst, arith}
 use Rattle.machine.specs.Reach.{alone}
 use Rattle.machine.specs.State.{well_formed, Whole}
-use Rattle.machine.specs.Run.{After, by_itself, ended, run_from, run_of, acceptable}
+use Rattle.machine.specs.Run.{After, by_itself, ended, run_of, acceptable}
 use Rattle.machine.specs.Sum.{run_summed}
 use Rattle.machine.proofs.Laws.Kept.{Formed, formed, formed-true, Steady, steady}
 use Rattle.machine.proofs.Laws.Accepted.{taken}
+use Rattle.machine.proofs.Laws.Steps.{run-taken, run-declined}
 use Rattle.machine.proofs.Laws.Summed.{budget_with, as-run}
 use Rattle.machine.specs.declared.Machine.{Machine}
 use Rattle.demands.specs.History.{World, world, world_after, asked, step, host, History, here, then, joined, steps_in, Resets}
@@ -19,15 +20,22 @@ use Rattle.demands.proofs.Theorems.Two.{declines}
 use Rattle.demands.proofs.Theorems.Three.{three-from}
 
 bare-history : (memory : List ℕ) (m : Machine) (budget : ℕ) → RunHistory (world memory m) (run_of memory m budget)
-unfolding run_of
-bare-history memory m budget = go (acceptable memory m budget)
+bare-history memory m budget = go (acceptable memory m budget) refl
   where
-    go : (b : Bool) →
-        RunHistory (world memory m) (elim b as (λ x. After) [ true ↦ run_from alone by_itself budget memory m 0 0 | false ↦ ended 2 memory m 0 0 ])
-    go true =
+    go : (b : Bool) → acceptable memory m budget ≡ b → RunHistory (world memory m) (run_of memory m budget)
+    go true e =
         let c = course alone by_itself budget memory m 0 0 in
-        record { history = c.history; unbroken = c.unbroken; under = c.under; steps = omega (arith, c.steps); cycles = omega (arith, c.cycles) }
-    go false = record { history = here; unbroken = tt; under = tt; steps = refl; cycles = refl }
+        subst (RunHistory (world memory m)) (sym (run-taken memory m budget e))
+        (record {
+          history = c.history;
+          unbroken = c.unbroken;
+          under = c.under;
+          steps = omega (arith, c.steps);
+          cycles = omega (arith, c.cycles);
+        })
+    go false e =
+        subst (RunHistory (world memory m)) (sym (run-declined memory m budget e))
+        (record { history = here; unbroken = tt; under = tt; steps = refl; cycles = refl })
 
 -- A run is a history of completed instructions and entries of lines, with the steps and the cycles that it reports.
 pub run-history : (memory : List ℕ) (m : Machine) (budget sum : ℕ) → RunHistory (world memory m) (run_summed memory m budget sum).after

@@ -3,7 +3,6 @@
 use Rattle.std.specs.Prelude.{◌≡◌, Bool, true, false, List, [], ◌∷◌, map, ℕ, zero, suc, ◌+◌, ◌≤◌, ◌<◌, length, get_or}
 use Rattle.std.proofs.Math.Path.{refl, ap}
 use Rattle.std.proofs.Common.{sym, ◌∙◌, subst, arith}
-use Rattle.plain.specs.Choice.{pick}
 use Rattle.machine.specs.Limits.{memory_length, most_budget}
 use Rattle.machine.specs.Reach.{alone, task}
 use Rattle.machine.specs.State.{Whole}
@@ -12,7 +11,7 @@ use Rattle.machine.specs.Fetch.{instruction_at}
 use Rattle.machine.specs.Rows.{top}
 use Rattle.machine.specs.Checks.{Test}
 use Rattle.machine.specs.Lines.{let_in}
-use Rattle.machine.specs.Step.{Stepped, refused, done, put, cost_of, row_at, tests_at, step_of}
+use Rattle.machine.specs.Step.{refused, done, put, cost_of, row_at, tests_at, step_of}
 use Rattle.machine.specs.Run.{After, Manner, by_itself, ended, passes, run_from, run_of, acceptable, CyclesBounded}
 use Rattle.machine.specs.Tasks.{task_at, Between, turn_length, as_task, turn_of}
 use Rattle.machine.proofs.Laws.Passed.{step-done}
@@ -20,6 +19,7 @@ use Rattle.machine.proofs.Laws.Costs.{run-bounded, cycle-at, cycle-past, cycle-b
 use Rattle.machine.proofs.Laws.Prices.{by_code, zero-thrown}
 use Rattle.machine.proofs.Laws.Kept.{step_kept, let-in-good}
 use Rattle.machine.proofs.Laws.Accepted.{taken, accept}
+use Rattle.machine.proofs.Laws.Steps.{after_done, run-spent, run-refused, run-done, run-taken, run-declined}
 use Rattle.machine.specs.declared.Machine.{Machine}
 use Rattle.machine.specs.declared.Reach.{Reach}
 use Rattle.demands.specs.History.{World, world, code_at}
@@ -35,45 +35,33 @@ use Rattle.machine.proofs.Laws.Counted.{counted-on}
 
 -- A run of acceptable input starts with nothing counted; any other input is answered 2.
 pub starts : (mem : List ℕ) (m : Machine) (budget : ℕ) → acceptable mem m budget ≡ true → run_of mem m budget ≡ run_from alone by_itself budget mem m 0 0
-unfolding run_of
-starts mem m budget e =
-    ap (λ (b : Bool). elim b as (λ x. After) [ true ↦ run_from alone by_itself budget mem m 0 0 | false ↦ ended 2 mem m 0 0 ]) e
+starts mem m budget e = run-taken mem m budget e
 
 pub declines : (mem : List ℕ) (m : Machine) (budget : ℕ) → acceptable mem m budget ≡ false → run_of mem m budget ≡ ended 2 mem m 0 0
-unfolding run_of
-declines mem m budget e =
-    ap (λ (b : Bool). elim b as (λ x. After) [ true ↦ run_from alone by_itself budget mem m 0 0 | false ↦ ended 2 mem m 0 0 ]) e
+declines mem m budget e = run-declined mem m budget e
 
 module _ (reach : Reach) (manner : Manner) (mem : List ℕ) (m : Machine) (n c : ℕ) where
   -- The run of no instructions answers 1, whatever stands at the counter.
   pub spends : run_from reach manner zero mem m n c ≡ ended 1 mem m n c
-  unfolding run_from
-  spends = refl
-
-  -- what follows one step, which passes the turn or not
-  abbrev onward : ℕ → Bool → Stepped → After
-  onward left turn-over s =
-      elim s as (λ x. After) [
-        | refused number ↦ ended number mem (let_in manner.lined m) n c
-        | done mem' m' cost ↦ pick turn-over (ended 1 mem' m' (suc n) (c + cost)) (run_from reach manner left mem' m' (suc n) (c + cost))
-      ]
+  spends = run-spent reach manner mem m n c
 
   -- The run of budget + 1 is one step and the run of budget: no instruction is skipped, feigned or carried out twice.
   pub goes_on : (budget : ℕ) (mem' : List ℕ) (m' : Machine) (k : ℕ) → passes manner.in_turns mem (let_in manner.lined m) ≡ false → step_of reach mem (let_in manner.lined m) ≡ done mem' m' k →
       run_from reach manner (suc budget) mem m n c ≡ run_from reach manner budget mem' m' (suc n) (c + k)
-  unfolding run_from
-  goes_on budget mem' m' k keeps e = λ i. onward budget (keeps i) (e i)
+  goes_on budget mem' m' k keeps e =
+      run-done reach manner budget mem m n c mem' m' k e ∙
+      ap (λ (b : Bool). after_done reach manner b budget mem' m' (suc n) (c + k)) keeps
 
   -- An instruction that passes the turn is counted as any other, and ends it.
   pub passes_on : (budget : ℕ) (mem' : List ℕ) (m' : Machine) (k : ℕ) → passes manner.in_turns mem (let_in manner.lined m) ≡ true → step_of reach mem (let_in manner.lined m) ≡ done mem' m' k →
       run_from reach manner (suc budget) mem m n c ≡ ended 1 mem' m' (suc n) (c + k)
-  unfolding run_from
-  passes_on budget mem' m' k over e = λ i. onward budget (over i) (e i)
+  passes_on budget mem' m' k over e =
+      run-done reach manner budget mem m n c mem' m' k e ∙
+      ap (λ (b : Bool). after_done reach manner b budget mem' m' (suc n) (c + k)) over
 
   -- A refused instruction ends it there, with nothing counted for it; an entry before it stays.
   pub stops : (budget k : ℕ) → step_of reach mem (let_in manner.lined m) ≡ refused k → run_from reach manner (suc budget) mem m n c ≡ ended k mem (let_in manner.lined m) n c
-  unfolding run_from
-  stops budget k e = ap (onward budget (passes manner.in_turns mem (let_in manner.lined m))) e
+  stops budget k e = run-refused reach manner budget mem m n c k e
 
 -- The same between whole runs: what a run of budget + 1 leaves is what the run of budget leaves after the first step and an entry before it, one step and
 -- that step's cycles added. So runs can be cut anywhere.
@@ -125,12 +113,14 @@ module _ (reach : Reach) (w v : World) (k : ℕ) (e : step_of reach w.memory w.m
 
 -- From n to 42n cycles for n steps.
 pub bounded : (mem : List ℕ) (m : Machine) (budget : ℕ) → CyclesBounded (run_of mem m budget)
-unfolding run_of
-bounded mem m budget = go (acceptable mem m budget)
+bounded mem m budget = go (acceptable mem m budget) refl
   where
-    go : (b : Bool) → CyclesBounded (elim b as (λ x. After) [ true ↦ run_from alone by_itself budget mem m 0 0 | false ↦ ended 2 mem m 0 0 ])
-    go true = run-bounded alone by_itself budget mem m 0 0 (omega arith) (omega arith)
-    go false = record { least = omega arith; most = omega arith }
+    go : (b : Bool) → acceptable mem m budget ≡ b → CyclesBounded (run_of mem m budget)
+    go true e =
+        subst CyclesBounded (sym (starts mem m budget e))
+        (run-bounded alone by_itself budget mem m 0 0 (omega arith) (omega arith))
+    go false e =
+        subst CyclesBounded (sym (declines mem m budget e)) (record { least = omega arith; most = omega arith })
 
 -- The tests stand in this order: for the instruction's bytes 3 and 17, for the end of the program 0, then 4, 16 for RTI, 5 to 13, and for data 17.
 pub in_order : (reach : Reach) (mem : List ℕ) (m : Machine) →

@@ -1,5 +1,4 @@
 -- The bench's own promise, its answer as a number.
-use borrow.Author.Rules.{rules}
 use Rattle.glidecotton.proofs.glidecotton_bench.Goals as goal
 
 pub returns : goal.returns

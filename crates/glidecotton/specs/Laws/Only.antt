@@ -1,13 +1,13 @@
 -- No second answer: two answers, with both buffers, that meet a promise are equal.
-use Rattle.std.specs.Prelude.{List, ◌≡◌, ℕ}
+use Rattle.std.specs.Prelude.{List, ◌≡◌, ℕ, Result}
 use Rattle.std.proofs.Common.{sym, ap, ◌∙◌}
 use Rattle.numbers.specs.Laws.Bytes.{Bytes}
 use Rattle.image.specs.Loading.{Reading}
 use Rattle.image.specs.Laws.Only.{only-reading}
 use Rattle.image.proofs.Laws.Computed.{read_of, computed}
-use Rattle.report.specs.Printing.{says_printed}
-use Rattle.report.specs.Laws.Only.{same-printed}
-use Rattle.report.specs.declared.Printed.{Printed}
+use Rattle.machine.specs.Refusals.{says}
+use Rattle.machine.specs.declared.refusal.Refusal.{Refusal}
+use Rattle.machine.proofs.Laws.Refusing.{same-said}
 use Rattle.glidecotton.specs.Bench.{Benched, Benches, bench_of}
 use Rattle.glidecotton.specs.Host.{Hosted, Hosts, hosted}
 
@@ -16,13 +16,13 @@ only-benched image memory out a b h k =
     let same = only-reading image memory h.reading.memory k.reading.memory h.reading.returned k.reading.returned h.is_read k.is_read in
     h.comes-to ∙ ap (λ (read : Reading). bench_of read out) same ∙ sym k.comes-to
 
-pub only-bench : (image memory out : List ℕ) (a b : Printed) (m n x y : List ℕ)
-    → Benches image memory out (record { printed = says_printed a; memory = m; out = x })
-    → Benches image memory out (record { printed = says_printed b; memory = n; out = y })
+pub only-bench : (image memory out : List ℕ) (a b : Result ℕ Refusal) (m n x y : List ℕ)
+    → Benches image memory out (record { printed = says a; memory = m; out = x })
+    → Benches image memory out (record { printed = says b; memory = n; out = y })
     → (a ≡ b) × (m ≡ n) × (x ≡ y)
 only-bench image memory out a b m n x y h k =
     let same = only-benched image memory out _ _ h k in (
-      same-printed a b (ap (λ (d : Benched). d.printed) same),
+      same-said a b (ap (λ (d : Benched). d.printed) same),
       ap (λ (d : Benched). d.memory) same,
       ap (λ (d : Benched). d.out) same,
     )

@@ -8,12 +8,9 @@ use Rattle.machine.specs.Run.{After, ended, run_of}
 use Rattle.machine.specs.Sum.{sum_after, Summed, run_summed}
 use Rattle.machine.proofs.Laws.Summed.{too_large}
 use Rattle.machine.specs.declared.Machine.{Machine}
+use Rattle.state.specs.Narrowed.{narrowed_to}
 
--- the nearest number that is refused or is the budget itself
-abbrev pub narrowed_to : ℕ → ℕ
-narrowed_to budget = pick (ltb most_budget budget) (suc most_budget) budget
-
-same_after : (mem : List ℕ) (m : Machine) (budget : ℕ) → run_of mem m (narrowed_to budget) ≡ run_of mem m budget
+same_after : (mem : List ℕ) (m : Machine) (budget : ℕ) → run_of mem m (narrowed_to most_budget budget) ≡ run_of mem m budget
 same_after mem m budget = by-test (ltb most_budget budget) refl
   where
     by-test : (t : Bool) → ltb most_budget budget ≡ t → run_of mem m (pick t (suc most_budget) budget) ≡ run_of mem m budget
@@ -22,7 +19,7 @@ same_after mem m budget = by-test (ltb most_budget budget) refl
         too_large mem m (suc most_budget) (omega arith) ∙ sym (too_large mem m budget large)
     by-test false e = refl
 
-pub same-run : (mem : List ℕ) (m : Machine) (budget sum : ℕ) → run_summed mem m (narrowed_to budget) sum ≡ run_summed mem m budget sum
+pub same-run : (mem : List ℕ) (m : Machine) (budget sum : ℕ) → run_summed mem m (narrowed_to most_budget budget) sum ≡ run_summed mem m budget sum
 unfolding run_summed
 same-run mem m budget sum = ap (λ (a : After). summed (leb sum most_sum) a) (same_after mem m budget)
   where

@@ -1,5 +1,5 @@
 -- The reader's answer as a computation: for files of bytes it is the one answer that the promise allows.
-use Rattle.std.specs.Prelude.{Bool, true, false, List, ◌≡◌, refl, ℕ, eqb, length}
+use Rattle.std.specs.Prelude.{Bool, true, false, List, ◌≡◌, refl, ℕ, eqb, length, Result, Ok, Err}
 use Rattle.std.proofs.Common.{sym, ap, subst, ◌∙◌, arith, eqb-true}
 use Rattle.std.proofs.lemmas.Bool.{eqb-false}
 use Rattle.plain.specs.Answer.{gives}
@@ -14,8 +14,6 @@ use Rattle.image.specs.Laws.Complete.{accepted}
 use Rattle.image.specs.Laws.Only.{only-reading}
 use Rattle.image.specs.declared.Fault.{Fault}
 use Rattle.image.specs.declared.Spans.{Spans}
-use Rattle.image.specs.declared.Judged.{Judged}
-use Rattle.image.specs.declared.Judged.TheVariants as judged
 
 abbrev pub judged_reading : List ℕ → List ℕ → Finding Spans → Reading
 judged_reading file before (fails number fault) = record { memory = before; returned = refused_with bad_file }
@@ -34,12 +32,12 @@ none-spells file number fault bad i ok e =
     omega arith
 
 -- the clause alone decides the answer
-pub judged-says : (file : List ℕ) → Bytes file → (j : Judged) → says_judged j ≡ judged_of file → Judges file j
-judged-says file bytes j is = record { answer = by-case j is; clause = is }
+pub judged_says : (file : List ℕ) → Bytes file → (j : Result Spans Fault) → says_judged j ≡ judged_of file → Judges file j
+judged_says file bytes j is = record { answer = by-case j is; clause = is }
   where
-    by-case : (k : Judged) → says_judged k ≡ judged_of file → Says file (answer_of (says_judged k))
-    by-case (judged.Bad fault) e = spells-none (none-spells file bad_file fault (sym e))
-    by-case (judged.Good spans) e =
+    by-case : (k : Result Spans Fault) → says_judged k ≡ judged_of file → Says file (answer_of (says_judged k))
+    by-case (Err fault) e = spells-none (none-spells file bad_file fault (sym e))
+    by-case (Ok spans) e =
         let good = good-file file spans (sym e) in
         let i = image_in file spans in
         let spellable = image-spellable file bytes spans good in

@@ -1,18 +1,20 @@
 -- No second answer: no file is spelled by two images, and two results that meet the reader's promise are equal.
-use Rattle.std.specs.Prelude.{List, ◌≡◌, refl, ℕ}
+use Rattle.std.specs.Prelude.{List, ◌≡◌, refl, ℕ, Result, Ok, Err}
 use Rattle.std.proofs.Common.{sym, ap, ◌∙◌}
+use Rattle.plain.specs.Answer.{Answer, refuses, gives}
+use Rattle.machine.specs.Refusals.{number_of}
+use Rattle.machine.specs.declared.refusal.Refusal.{Refusal}
+use Rattle.machine.proofs.Laws.Refusing.{same-refusal}
 use Rattle.image.specs.Format.{Image, Spellable, spelled, limits, longest_file}
-use Rattle.image.specs.Loading.{says_verdict, Returned, returned, Reading, Read, wrong-memory, not-spelled, read, filled, loaded_from}
+use Rattle.image.specs.Loading.{Returned, returned, Reading, Read, wrong-memory, not-spelled, read, filled, loaded_from, refused_with}
 use Rattle.image.specs.Judging.{finds, says_judged, judged_of, spans_of, Judges}
 use Rattle.image.specs.Laws.Sound.{image_in}
 use Rattle.image.specs.Laws.Complete.{found, accepted}
 use Rattle.image.specs.declared.Section.{Section}
 use Rattle.image.specs.declared.Limits.{Limits}
-use Rattle.image.specs.declared.Judged.{Judged}
-use Rattle.image.specs.declared.Judged.TheVariants as judged
+use Rattle.image.specs.declared.Fault.{Fault}
+use Rattle.image.specs.declared.Spans.{Spans}
 use Rattle.image.specs.declared.Loaded.{Loaded}
-use Rattle.image.specs.declared.Verdict.{Verdict}
-use Rattle.image.specs.declared.Verdict.TheVariants as verdict
 
 pub only-image : (i j : Image) → Spellable i → Spellable j → spelled i ≡ spelled j → i ≡ j
 only-image i j a b e =
@@ -29,13 +31,13 @@ only-limits s a b h k = h ∙ sym k
 pub only-longest : (a b : ℕ) → a ≡ longest_file → b ≡ longest_file → a ≡ b
 only-longest a b h k = h ∙ sym k
 
-same-judged : (a b : Judged) → says_judged a ≡ says_judged b → a ≡ b
-same-judged (judged.Bad f) (judged.Bad g) e = cc
-same-judged (judged.Bad f) (judged.Good p) e = cc
-same-judged (judged.Good p) (judged.Bad f) e = cc
-same-judged (judged.Good p) (judged.Good q) e = cc
+same-judged : (a b : Result Spans Fault) → says_judged a ≡ says_judged b → a ≡ b
+same-judged (Err f) (Err g) e = cc
+same-judged (Err f) (Ok p) e = cc
+same-judged (Ok p) (Err f) e = cc
+same-judged (Ok p) (Ok q) e = cc
 
-pub only-judge : (file : List ℕ) (a b : Judged) → Judges file a → Judges file b → a ≡ b
+pub only-judge : (file : List ℕ) (a b : Result Spans Fault) → Judges file a → Judges file b → a ≡ b
 only-judge file a b h k = same-judged a b (h.clause ∙ sym k.clause)
 
 pub only-reading : (file before m₁ m₂ : List ℕ) (h₁ h₂ : Returned) → Read file before m₁ h₁ → Read file before m₂ h₂
@@ -51,16 +53,17 @@ only-reading file before m₁ m₂ h₁ h₂ (read i e a s) (not-spelled f n) = 
 only-reading file before m₁ m₂ h₁ h₂ (read i e a s) (read j f b t) =
     ap (λ (x : Image). record { memory = filled x; returned = loaded_from x }) (only-image i j a b (s ∙ sym t))
 
-same-verdict : (a b : Verdict) → says_verdict a ≡ says_verdict b → a ≡ b
-same-verdict verdict.Good verdict.Good e = refl
-same-verdict verdict.Good (verdict.Refused m) e = cc
-same-verdict (verdict.Refused n) verdict.Good e = cc
-same-verdict (verdict.Refused n) (verdict.Refused m) e = cc
+same-loaded : (a b : Result Loaded Refusal) → returned a ≡ returned b → a ≡ b
+unfolding refused_with
+same-loaded (Ok a) (Ok b) e = λ i. Ok (record { machine = (e i).machine; budget = (e i).budget; sum = (e i).sum })
+same-loaded (Ok a) (Err why) e = let z : gives tt ≡ refuses (number_of why) = ap (λ (r : Returned). r.says) e in cc
+same-loaded (Err why) (Ok b) e = let z : refuses (number_of why) ≡ gives tt = ap (λ (r : Returned). r.says) e in cc
+same-loaded (Err why) (Err other) e =
+    let z : ◌≡◌ {A = Answer (Unit {0})} (refuses (number_of why)) (refuses (number_of other)) = ap (λ (r : Returned). r.says) e in
+    ap Err (same-refusal why other (cc))
 
-pub only-read : (file before x y : List ℕ) (a b : Loaded) → Read file before x (returned a) → Read file before y (returned b) → (x ≡ y) × (a ≡ b)
+pub only-read : (file before x y : List ℕ) (a b : Result Loaded Refusal) → Read file before x (returned a) → Read file before y (returned b)
+    → (x ≡ y) × (a ≡ b)
 only-read file before x y a b h k =
     let same = only-reading file before x y (returned a) (returned b) h k in
-    let v = same-verdict a.verdict b.verdict (ap (λ (r : Reading). r.returned.says) same) in (
-      ap (λ (r : Reading). r.memory) same,
-      λ i. record { verdict = v i; machine = (same i).returned.machine; budget = (same i).returned.budget; sum = (same i).returned.sum },
-    )
+    (ap (λ (r : Reading). r.memory) same, same-loaded a b (ap (λ (r : Reading). r.returned) same))

@@ -25,7 +25,8 @@ use Rattle.machine.specs.View.{bytes_of_cells, overwritten}
 use Rattle.machine.specs.Fetch.{Instruction, operand_at, instruction_at}
 use Rattle.machine.specs.Rows.{Row, a_routine, releasing, no_return, lacking, exit_row, top, second, top_return, locals_in_view, cells_in_view, in_view, cells_row, throw_row, row_of, link_row, shuffled, target, two_row, fetch_row, store_row}
 use Rattle.machine.specs.Step.{done, noted, step_of, row_at}
-use Rattle.machine.specs.Run.{After, Manner, by_itself, ended, run_from, acceptable, run_of}
+use Rattle.machine.specs.Run.{After, Manner, by_itself, run_from, acceptable, run_of}
+use Rattle.machine.proofs.Laws.Steps.{run-taken, run-declined}
 use Rattle.machine.specs.Lines.{entered_by, let_in, released}
 use Rattle.machine.specs.Fits.{ThrowFits, LinesFit, Fits, AllBytes, Exist}
 use Rattle.machine.proofs.Laws.Tables.{Everywhere, at-code}
@@ -299,11 +300,10 @@ rest-carries reach manner left mem m n c formed x = (along reach manner Carried 
 
 pub run-carries : (mem : List ℕ) (m : Machine) (budget : ℕ) → Exist mem m →
     Exist (run_of mem m budget).memory (run_of mem m budget).ran.machine
-unfolding run_of
 run-carries mem m budget x = go (acceptable mem m budget) refl
   where
-    go : (b : Bool) → acceptable mem m budget ≡ b →
-        ExistAfter (elim b as (λ y. After) [ true ↦ run_from alone by_itself budget mem m 0 0 | false ↦ ended 2 mem m 0 0 ])
+    go : (b : Bool) → acceptable mem m budget ≡ b → ExistAfter (run_of mem m budget)
     go true e =
-        rest-carries alone by_itself budget mem m 0 0 (taken mem m budget e).formed x
-    go false e = x
+        subst ExistAfter (sym (run-taken mem m budget e))
+        (rest-carries alone by_itself budget mem m 0 0 (taken mem m budget e).formed x)
+    go false e = subst ExistAfter (sym (run-declined mem m budget e)) x

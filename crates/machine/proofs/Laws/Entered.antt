@@ -8,11 +8,12 @@ use Rattle.links.specs.Depths.{returns_depth, subroutines_depth}
 use Rattle.links.proofs.Laws.Called.{call-makes}
 use Rattle.machine.specs.Lines.{has_bit, all_lines, is_due, Line, none, line, first_due, lowest_due, has_room, entering, entered_by, after_line, let_in}
 use Rattle.machine.specs.State.{Whole}
-use Rattle.machine.specs.Step.{refused, done, step_of}
-use Rattle.machine.specs.Run.{After, Manner, ended, passes, run_from}
+use Rattle.machine.specs.Step.{step_of}
+use Rattle.machine.specs.Run.{After, Manner, run_from}
 use Rattle.machine.specs.AfterEntry.{AfterEntry}
 use Rattle.machine.proofs.Laws.Lines.{enters, let-in-twice}
 use Rattle.machine.proofs.Laws.Served.{bit-cleared, bit_kept}
+use Rattle.machine.proofs.Laws.Steps.{after_step, run-step}
 use Rattle.machine.specs.declared.Lines.{Lines}
 use Rattle.machine.specs.declared.Machine.{Machine}
 use Rattle.machine.specs.declared.Reach.{Reach}
@@ -114,13 +115,8 @@ entry-leaves m n whole e =
 -- an entry is no step and takes no cycle: the run goes on from there with the same counts and the same memory
 pub entry_free : (reach : Reach) (manner : Manner) (left : ℕ) (mem : List ℕ) (m : Machine) (n c : ℕ) →
     run_from reach manner (suc left) mem m n c ≡ run_from reach manner (suc left) mem (let_in manner.lined m) n c
-unfolding run_from
 entry_free reach manner left mem m n c =
-    ap (λ (here : Machine).
-    elim (step_of reach mem here) as (λ x. After) [
-      | refused number ↦ ended number mem here n c
-      | done mem' m' cost ↦
-          pick (passes manner.in_turns mem here) (ended 1 mem' m' (suc n) (c + cost))
-          (run_from reach manner left mem' m' (suc n) (c + cost))
-    ])
-    (sym (let-in-twice manner.lined m))
+    let here = let_in manner.lined m in
+    let first : Machine → After = λ x. after_step reach manner left mem x n c (step_of reach mem x) in
+    run-step reach manner left mem m n c ∙
+    (ap first (sym (let-in-twice manner.lined m)) ∙ sym (run-step reach manner left mem here n c))

@@ -1,4 +1,4 @@
--- Everything but a THROW of non_zero keeps what was noted last.
+-- Everything but a THROW of non-zero keeps what was noted last.
 use Rattle.std.specs.Prelude.{◌⊎◌, ◌≡◌, refl, List, ℕ}
 use Rattle.std.proofs.Common.{inl, inr, ⊎_elim, ap, ◌∙◌, subst}
 use Rattle.std.proofs.lemmas.Bool.{eqb-false}
@@ -14,7 +14,7 @@ use Rattle.machine.proofs.Laws.Told.{Tells, fair}
 use Rattle.machine.specs.declared.Machine.{Machine}
 use Rattle.machine.specs.declared.Reach.{Reach}
 
--- an action is that of a THROW of non_zero, or keeps what was noted
+-- an action is that of a THROW of non-zero, or keeps what was noted
 pub throws-or-keeps : (m : Machine) (a : Act) → (a ≡ throw) ⊎ (noted a m ≡ m.thrown)
 throws-or-keeps m still = inr refl
 throws-or-keeps m (push x) = inr refl

@@ -3,10 +3,10 @@ use Rattle.std.specs.Prelude.{◌≡◌, Bool, true, false, List}
 use Rattle.std.proofs.Math.Path.{refl}
 use Rattle.std.proofs.Common.{ap, ◌∙◌, arith}
 use Prim.Native.Nat.{ℕ, zero, suc, ◌+◌, ◌≤◌, ◌<◌}
-use Rattle.plain.specs.Choice.{pick}
 use Rattle.machine.specs.Step.{Stepped, refused, done, step_of}
 use Rattle.machine.specs.Lines.{let_in}
 use Rattle.machine.specs.Run.{After, ended, manner_of, passes, run_from}
+use Rattle.machine.proofs.Laws.Steps.{after_done, after_step, run-spent, run-step}
 use Rattle.machine.specs.declared.Machine.{Machine}
 use Rattle.machine.specs.declared.Reach.{Reach}
 
@@ -38,14 +38,8 @@ module _ (reach : Reach) (lined : Bool) where
 
   step-onward : (k left : ℕ) → OnwardFrom k left → (mem : List ℕ) (m : Machine) (x y n c : ℕ) (s : Stepped) → step_of reach mem m ≡ s →
       Onward (suc k) (suc left) n c x
-      (elim s as (λ z. After) [
-        | refused number ↦ ended number mem m (n + x) (c + y)
-        | done mem' m' cost ↦ run_from reach (manner_of false lined) left mem' m' (suc (n + x)) (c + y + cost)
-      ])
-      (elim s as (λ z. After) [
-        | refused number ↦ ended number mem m x y
-        | done mem' m' cost ↦ pick (passes true mem m) (ended 1 mem' m' (suc x) (y + cost)) (run_from reach (manner_of true lined) k mem' m' (suc x) (y + cost))
-      ])
+      (after_step reach (manner_of false lined) left mem m (n + x) (c + y) s)
+      (after_step reach (manner_of true lined) k mem m x y s)
   step-onward k left later mem m x y n c (refused number) e = stopped e (omega arith) refl
   step-onward k left later mem m x y n c (done mem' m' cost) e = go (passes true mem m)
     where
@@ -54,13 +48,18 @@ module _ (reach : Reach) (lined : Bool) where
 
       go : (b : Bool) →
           Onward (suc k) (suc left) n c x (run_from reach (manner_of false lined) left mem' m' (suc (n + x)) (c + y + cost))
-          (pick b (ended 1 mem' m' (suc x) (y + cost)) (run_from reach (manner_of true lined) k mem' m' (suc x) (y + cost)))
+          (after_done reach (manner_of true lined) b k mem' m' (suc x) (y + cost))
       go true = goes_on refl left (omega arith) same
       go false = deeper k left n c x _ _ _ same (later mem' m' (suc x) (y + cost) n c)
 
   pub onward : (k left : ℕ) → k ≤ left → OnwardFrom k left
-  unfolding run_from
-  onward zero left within mem m x y n c = goes_on refl left refl refl
+  onward zero left within mem m x y n c =
+      rw (run-spent reach (manner_of true lined) mem m x y) (goes_on refl left refl refl)
   onward (suc k) zero within mem m x y n c = absurd (omega arith)
   onward (suc k) (suc left) within mem m x y n c =
-      step-onward k left (onward k left (omega arith)) mem (let_in lined m) x y n c (step_of reach mem (let_in lined m)) refl
+      let here = let_in lined m in
+      rw (
+        run-step reach (manner_of false lined) left mem m (n + x) (c + y),
+        run-step reach (manner_of true lined) k mem m x y,
+      )
+      (step-onward k left (onward k left (omega arith)) mem here x y n c (step_of reach mem here) refl)

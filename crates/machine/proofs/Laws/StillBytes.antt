@@ -14,7 +14,8 @@ use Rattle.machine.specs.Memory.{size, place_of}
 use Rattle.machine.specs.Fetch.{Instruction, instruction_at}
 use Rattle.machine.specs.Rows.{a_routine, releasing, no_return, top, second, lacking, exit_row, cells_row, throw_row, link_row, two_row, fetch_row, store_row, row_of}
 use Rattle.machine.specs.Step.{done, step_of}
-use Rattle.machine.specs.Run.{After, Manner, by_itself, ended, run_from, acceptable, run_of}
+use Rattle.machine.specs.Run.{Manner, by_itself, run_from, acceptable, run_of}
+use Rattle.machine.proofs.Laws.Steps.{run-taken, run-declined}
 use Rattle.machine.specs.Tasks.{Task, task_at, Between, TasksAfter, turn_length, as_task, TurnsFrom, spent, idle, turn, RunsTasks, declined, ran}
 use Rattle.machine.specs.Fits.{AllBytes}
 use Rattle.machine.proofs.Laws.Along.{along}
@@ -98,12 +99,11 @@ rest-still reach manner left mem m bytes =
     (λ now m n c so_far. so_far) left mem m 0 0 (record { bytes = bytes; same_length = refl })
 
 pub run-still : (mem : List ℕ) (m : Machine) (budget : ℕ) → AllBytes mem → Still mem (run_of mem m budget).memory
-unfolding run_of
-run-still mem m budget bytes = go (acceptable mem m budget)
+run-still mem m budget bytes = go (acceptable mem m budget) refl
   where
-    go : (b : Bool) → Still mem (elim b as (λ x. After) [ true ↦ run_from alone by_itself budget mem m 0 0 | false ↦ ended 2 mem m 0 0 ]).memory
-    go true = rest-still alone by_itself budget mem m bytes
-    go false = record { bytes = bytes; same_length = refl }
+    go : (b : Bool) → acceptable mem m budget ≡ b → Still mem (run_of mem m budget).memory
+    go true e = rw (run-taken mem m budget e) (rest-still alone by_itself budget mem m bytes)
+    go false e = rw (run-declined mem m budget e) (record { bytes = bytes; same_length = refl })
 
 turns-still : {quantum : ℕ} {b : Between} {end : TasksAfter} → AllBytes b.memory → TurnsFrom quantum b end → Still b.memory end.memory
 turns-still bytes (spent e) = record { bytes = bytes; same_length = refl }

@@ -17,6 +17,7 @@ use Rattle.machine.specs.Fits.{AllBytes}
 use Rattle.machine.proofs.Laws.Accepted.{taken}
 use Rattle.machine.proofs.Laws.Clash.{clash}
 use Rattle.machine.proofs.Laws.OnlyTasks.{only-run}
+use Rattle.machine.proofs.Laws.Steps.{run-declined}
 use Rattle.machine.proofs.Laws.StillBytes.{Still, run-still, tasks-still}
 use Rattle.machine.proofs.Laws.Sum.{sum_alike, memory-sum, sum-stays, sum-true}
 use Rattle.machine.proofs.Laws.TasksTaken as tasks
@@ -47,8 +48,7 @@ not-accepted mem m budget h =
     ∙ both_false (eqb (length mem) memory_length) (well_formed m)
 
 pub too_large : (mem : List ℕ) (m : Machine) (budget : ℕ) → most_budget < budget → run_of mem m budget ≡ ended not_as_asked mem m 0 0
-unfolding run_of
-too_large mem m budget h = rw (not-accepted mem m budget h, run_of)
+too_large mem m budget h = run-declined mem m budget (not-accepted mem m budget h)
 
 -- the budget itself, or one that is refused as the sum is
 abbrev pub budget_with : ℕ → ℕ → ℕ
@@ -94,12 +94,11 @@ true-on mem after long still =
 -- a run hands back the full addition where it was given that
 true-taken : (mem : List ℕ) (m : Machine) (budget : ℕ) → AllBytes mem → sum_of mem ≤ most_sum →
     sum_after (sum_of mem) mem (run_of mem m budget).memory ≡ sum_of (run_of mem m budget).memory
-unfolding run_of
 true-taken mem m budget bytes h = go (acceptable mem m budget) refl
   where
     go : (b : Bool) → acceptable mem m budget ≡ b → sum_after (sum_of mem) mem (run_of mem m budget).memory ≡ sum_of (run_of mem m budget).memory
     go true e = true-on mem (run_of mem m budget).memory (taken mem m budget e).long (run-still mem m budget bytes)
-    go false e = rw (e, run_of) (sum-stays (sum_of mem) mem (omega arith))
+    go false e = rw (run-declined mem m budget e) (sum-stays (sum_of mem) mem (omega arith))
 
 pub true-run : (mem : List ℕ) (m : Machine) (budget sum : ℕ) → AllBytes mem → sum ≡ sum_of mem →
     (run_summed mem m budget sum).sum ≡ sum_of (run_summed mem m budget sum).after.memory

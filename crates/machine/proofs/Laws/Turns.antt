@@ -10,12 +10,13 @@ use Rattle.plain.specs.Laws.Choice.{both-parts, both_hold, is_true}
 use Rattle.machine.specs.State.{well_formed, Whole}
 use Rattle.machine.specs.Step.{Stepped, refused, done, step_of}
 use Rattle.machine.specs.Lines.{let_in}
-use Rattle.machine.specs.Run.{After, ended, manner_of, passes, run_from}
+use Rattle.machine.specs.Run.{After, manner_of, passes, run_from}
 use Rattle.machine.specs.Tasks.{Task, task_at, ready, is_ready, left_by, Between, turn_length, after_turn, can_keep, task_good, all_good, AllWhole}
 use Rattle.machine.proofs.Laws.Along.{along}
 use Rattle.machine.proofs.Laws.Kept.{Formed, formed, formed-true, Good, step_kept, let-in-good}
 use Rattle.machine.proofs.Laws.Onward.{Onward, goes_on, stopped, onward}
 use Rattle.machine.proofs.Laws.Refusals.{refused-leaves}
+use Rattle.machine.proofs.Laws.Steps.{after_done, after_step, run-step}
 use Rattle.machine.specs.declared.Machine.{Machine}
 use Rattle.machine.specs.declared.Reach.{Reach}
 
@@ -86,23 +87,22 @@ module _ (reach : Reach) (lined : Bool) (k : ℕ) (mem : List ℕ) (m : Machine)
 -- a turn that can go on has carried out an instruction
 module _ (reach : Reach) (lined : Bool) where
   moved : (k : ℕ) (mem : List ℕ) (m : Machine) (s : Stepped) → step_of reach mem m ≡ s → (a : After) →
-      a ≡ elim s as (λ x. After) [
-        | refused number ↦ ended number mem m 0 0
-        | done mem' m' cost ↦ pick (passes true mem m) (ended 1 mem' m' 1 (0 + cost)) (run_from reach (manner_of true lined) k mem' m' 1 (0 + cost))
-      ] → a.ran.answer ≡ ready → 1 ≤ a.ran.steps.0
+      a ≡ after_step reach (manner_of true lined) k mem m 0 0 s → a.ran.answer ≡ ready → 1 ≤ a.ran.steps.0
   moved k mem m (refused number) e a is on =
       absurd ((refused-leaves reach mem m number e).1 (sym (ap (λ (x : After). x.ran.answer) is) ∙ on))
   moved k mem m (done mem' m' cost) e a is on = omega (arith, ap (λ (x : After). x.ran.steps.0) is, go (passes true mem m))
     where
-      go : (b : Bool) → 1 ≤ (pick b (ended 1 mem' m' 1 (0 + cost)) (run_from reach (manner_of true lined) k mem' m' 1 (0 + cost))).ran.steps.0
+      go : (b : Bool) → 1 ≤ (after_done reach (manner_of true lined) b k mem' m' 1 (0 + cost)).ran.steps.0
       go true = omega arith
       go false = along reach (manner_of true lined) (λ mem m n c. 1 ≤ n) (λ mem m n c mem' m' k now e. omega arith) (λ mem m n c now. now) k mem' m' 1 (0 + cost) (omega arith)
 
   pub turn-moves : (k : ℕ) (mem : List ℕ) (m : Machine) → 1 ≤ k → (run_from reach (manner_of true lined) k mem m 0 0).ran.answer ≡ ready →
       1 ≤ (run_from reach (manner_of true lined) k mem m 0 0).ran.steps.0
-  unfolding run_from
   turn-moves zero mem m some on = absurd (omega arith)
-  turn-moves (suc k) mem m some on = moved k mem (let_in lined m) (step_of reach mem (let_in lined m)) refl (run_from reach (manner_of true lined) (suc k) mem m 0 0) refl on
+  turn-moves (suc k) mem m some on =
+      let here = let_in lined m in
+      let turn = run_from reach (manner_of true lined) (suc k) mem m 0 0 in
+      moved k mem here (step_of reach mem here) refl turn (run-step reach (manner_of true lined) k mem m 0 0) on
 
 -- how many tasks are ready
 abbrev pub one : Bool → ℕ

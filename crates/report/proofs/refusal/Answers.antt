@@ -1,7 +1,7 @@
 -- The field that was put is the whole text.
-use Rattle.report.proofs.Printing.{refusal-printed}
+use Rattle.report.proofs.Printing.{refusal_printed}
 use borrow.Author.Rules.{rules}
 use Rattle.report.proofs.refusal.Goals as goal
 
 pub returns : goal.returns
-returns c = search (rules, refusal-printed)
+returns c = search (rules, refusal_printed)

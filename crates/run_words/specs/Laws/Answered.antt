@@ -1,13 +1,21 @@
 -- What an instruction does by what its check answers.
-use Rattle.std.specs.Prelude.{◌≡◌, refl, Bool, true, false, List, ℕ}
+use Rattle.std.specs.Prelude.{Result, Ok, Err, ◌≡◌, refl, Bool, true, false, List, ℕ}
 use Rattle.std.proofs.Common.{ap, sym, ◌∙◌, arith}
 use Rattle.plain.specs.Answer.{Answer, refuses, gives}
 use Rattle.plain.specs.Choice.{pick}
 use Rattle.machine.specs.Codes.{code_pause}
 use Rattle.machine.specs.Fetch.{Instruction}
+use Rattle.machine.specs.Refusals.{says}
 use Rattle.machine.specs.Step.{Stepped, refused, carried}
 use Rattle.machine.specs.declared.Machine.{Machine}
-use Rattle.run_words.specs.Answers.{step_by}
+use Rattle.machine.specs.declared.Reach.{Reach}
+use Rattle.machine.specs.declared.refusal.Refusal.{Refusal}
+use Rattle.reach.specs.Spots.{says_reached}
+use Rattle.reach.specs.declared.Spot.{Spot}
+use Rattle.run_words.specs.Answers.{step_by, says_fetched}
+use Rattle.run_words.specs.Registers.{halted_by}
+use Rattle.run_words.specs.declared.Fetched.{Fetched}
+use Rattle.run_words.specs.declared.Registers.{Registers}
 
 pub record Acts {A : Type 0} (i : Instruction) (mem : List ℕ) (m : Machine) (said : Answer A) (after : A → Stepped) : Type 0 where
   pub is : carried i mem m ≡ step_by said after
@@ -58,3 +66,12 @@ pub four-checks : (a b c d : Bool) (x y z w : ℕ) (result : Stepped) →
     step_by (pick a (refuses x) (pick b (refuses y) (pick c (refuses z) (pick d (refuses w) (gives tt))))) (λ (u : Unit {0}). result)
 four-checks true b c d x y z w result = refl
 four-checks false b c d x y z w result = three-checks b c d y z w result
+
+-- a refusal ends a run, whatever is read from an answer that gives something
+pub refused-reach : (answer : Result Spot Refusal) (g : Registers) → halted_by (says answer) g ≡ halted_by (says_reached answer) g
+refused-reach (Ok spot) g = refl
+refused-reach (Err why) g = refl
+
+pub refused-fetch : (answer : Result Fetched Refusal) (reach : Reach) (g : Registers) → halted_by (says answer) g ≡ halted_by (says_fetched answer reach) g
+refused-fetch (Ok fetched) reach g = refl
+refused-fetch (Err why) reach g = refl

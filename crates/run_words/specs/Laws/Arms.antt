@@ -1,5 +1,5 @@
 -- The arms of a round: what each instruction on the linked stacks, the memory and the cells in view does, by what its check answers.
-use Rattle.std.specs.Prelude.{◌≡◌, Bool, true, false, List, ℕ, suc, ◌+◌, ◌-◌, ◌%◌, ◌^◌, ◌≤◌, ltb, leb, eqb, get_or, set, take, drop}
+use Rattle.std.specs.Prelude.{Option, Some, None, ◌≡◌, Bool, true, false, List, ℕ, suc, ◌+◌, ◌-◌, ◌%◌, ◌^◌, ◌≤◌, ltb, leb, eqb, get_or, set, take, drop}
 use Rattle.std.proofs.Math.Path.{refl, subst⁻¹}
 use Rattle.std.proofs.Common.{ap, sym, ◌∙◌, subst, inl, inr}
 use native.Mathlib.Omega.{arith}
@@ -40,8 +40,6 @@ use Rattle.run_words.specs.Notes.{Aside, Note, aside_of}
 use Rattle.run_words.specs.Verdicts.{pushable, readable, callable, catchable, throwable, exitable, returnable, s_after_pop, e_after_drop_of, e_after_pop}
 use Rattle.run_words.specs.declared.Registers.{Registers}
 use Rattle.run_words.specs.declared.Stack.{Stack}
-use Rattle.run_words.specs.declared.Throw.{Throw}
-use Rattle.run_words.specs.declared.Throw.TheVariants.{Zero, Code}
 use Rattle.run_words.specs.Laws.Answered.{Acts, last-check, one-check, two-checks, three-checks, four-checks}
 use Rattle.run_words.specs.Laws.Drops.{positive, drop-same, pop-s, pop-e}
 use Rattle.run_words.specs.Laws.Rounds.{Round, Found, ends}
@@ -185,9 +183,9 @@ module _ {reach : Reach} {in_turns : Bool} {mem₀ : List ℕ} {m₀ : Machine} 
         record { on = λ h. omega (arith, key); is = rw (key, le-ltb g.p 0 none) }
 
     -- THROW of 0, and of a code to the top exception level
-    abbrev pub thrown_by : Throw → Stepped
-    thrown_by Zero = done mem (machine_in cells returns frames levels aside (moved_to g (g.p - 1) g.r g.s g.e next g.flag)) 1
-    thrown_by (Code n) =
+    abbrev pub thrown_by : Option ℕ → Stepped
+    thrown_by None = done mem (machine_in cells returns frames levels aside (moved_to g (g.p - 1) g.r g.s g.e next g.flag)) 1
+    thrown_by (Some n) =
         let level = get_or levels g.e no_level in
         done mem
         (machine_in (set cells level.p n) returns frames levels (aside_of (record { address = g.counter; code = n }) aside.lines)
@@ -216,7 +214,7 @@ module _ {reach : Reach} {in_turns : Bool} {mem₀ : List ℕ} {m₀ : Machine} 
 
     -- what it read of the level is where it goes
     pub thrown-there : (n : ℕ) {p s r address : ℕ} → p ≡ copy_of_p levels g.e → s ≡ copy_of_s levels g.e → r ≡ copy_of_r frames (s + 1) → address ≡ (get_or levels g.e no_level).address →
-        thrown_by (Code n) ≡ done mem (machine_in (set cells p n) returns frames levels (aside_of (record { address = g.counter; code = n }) aside.lines) (moved_to g (p + 1) r s (g.e - 1) address g.flag)) (cycles_of code)
+        thrown_by (Some n) ≡ done mem (machine_in (set cells p n) returns frames levels (aside_of (record { address = g.counter; code = n }) aside.lines) (moved_to g (p + 1) r s (g.e - 1) address g.flag)) (cycles_of code)
     thrown-there n ep es er ea = rw (ea, er, es, ep)
 
     -- EXIT

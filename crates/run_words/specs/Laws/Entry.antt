@@ -22,6 +22,7 @@ use Rattle.run_words.specs.Machines.{ran_of}
 use Rattle.run_words.specs.Clocks.{ran_tasks_of}
 use Rattle.machine.specs.State.{fresh_with}
 use Rattle.machine.proofs.Laws.Pairs.{paired-length}
+use Rattle.machine.proofs.Laws.Steps as begin
 use Rattle.machine.proofs.Laws.Sum.{sum-stays}
 
 module _ (mem : List ℕ) (m : Machine) (budget : ℕ) where
@@ -41,12 +42,10 @@ module _ (mem : List ℕ) (m : Machine) (budget : ℕ) where
   -- answer 2 alters nothing
   pub run-declined : acceptable mem m budget ≡ false → (ran : Ran) → ran ≡ ran_of 2 (record { 0 = 0 }) (record { 0 = 0 }) m →
       after_of mem ran ≡ run_of mem m budget
-  unfolding run_of
-  run-declined bad ran e = rw (bad, run_of) (ap (after_of mem) e)
+  run-declined bad ran e = ap (after_of mem) e ∙ sym (begin.run-declined mem m budget bad)
 
   pub taken : acceptable mem m budget ≡ true → (after : After) → after ≡ run_from alone by_itself budget mem m 0 0 → after ≡ run_of mem m budget
-  unfolding run_of
-  taken good after e = rw (good, run_of) e
+  taken good after e = e ∙ sym (begin.run-taken mem m budget good)
 
   -- the same with the memory sum beside it: a sum that is too great, one that a refusal hands back, and one that a run moves
   module _ (sum : ℕ) where

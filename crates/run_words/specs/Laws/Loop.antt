@@ -11,13 +11,14 @@ use Rattle.machine.specs.State.{well_formed, Whole}
 use Rattle.machine.specs.Fetch.{instruction_at}
 use Rattle.machine.specs.Step.{Stepped, refused, done, step_of}
 use Rattle.machine.specs.Lines.{let_in}
-use Rattle.machine.specs.Run.{After, ended, passes, run_from, acceptable}
+use Rattle.machine.specs.Run.{ended, passes, acceptable}
 use Rattle.machine.proofs.Laws.Costs.{cost-bounded}
 use Rattle.machine.proofs.Laws.Kept.{Formed, formed, step_kept}
 use Rattle.machine.proofs.Laws.Passed.{step-done}
+use Rattle.machine.proofs.Laws.Steps.{after_step, run-spent, run-step}
 use Rattle.machine.specs.declared.Machine.{Machine}
 use Rattle.machine.specs.declared.Reach.{Reach}
-use Rattle.run_words.specs.Calm.{lines_enter, run_in}
+use Rattle.run_words.specs.Calm.{lines_enter, manner_in, run_in}
 
 pub record Here (reach : Reach) (in_turns : Bool) (mem₀ : List ℕ) (m₀ : Machine) (budget : ℕ) (mem : List ℕ) (m : Machine) (n c : ℕ) : Type 0 where
   pub same : run_in reach in_turns budget mem₀ m₀ 0 0 ≡ run_in reach in_turns (budget - n) mem m n c
@@ -50,23 +51,12 @@ module _ (reach : Reach) (in_turns : Bool) (mem₀ : List ℕ) (m₀ : Machine) 
 
   -- what the next step makes of a run with budget left, where no line enters before it
   run_step : (left : ℕ) (mem : List ℕ) (m : Machine) (n c : ℕ) → let_in (lines_enter reach) m ≡ m → (s : Stepped) → step_of reach mem m ≡ s →
-      run_in reach in_turns (suc left) mem m n c ≡
-      elim s as (λ x. After) [
-        | refused number ↦ ended number mem m n c
-        | done mem' m' cost ↦
-            pick (passes in_turns mem m) (ended 1 mem' m' (suc n) (c + cost)) (run_in reach in_turns left mem' m' (suc n) (c + cost))
-      ]
-  unfolding run_from
+      run_in reach in_turns (suc left) mem m n c ≡ after_step reach (manner_in reach in_turns) left mem m n c s
   run_step left mem m n c still s e =
-      ap (λ (x : Machine). stepped x (step_of reach mem x)) still ∙ ap (stepped m) e
-    where
-      stepped : Machine → Stepped → After
-      stepped x r =
-          elim r as (λ y. After) [
-            | refused number ↦ ended number mem x n c
-            | done mem' m' cost ↦
-                pick (passes in_turns mem x) (ended 1 mem' m' (suc n) (c + cost)) (run_in reach in_turns left mem' m' (suc n) (c + cost))
-          ]
+      let manner = manner_in reach in_turns in
+      run-step reach manner left mem m n c ∙
+      (ap (λ (x : Machine). after_step reach manner left mem x n c (step_of reach mem x)) still ∙
+      ap (after_step reach manner left mem m n c) e)
 
   -- a step that is carried out and passes no turn
   pub advances : (mem : List ℕ) (m : Machine) (n c : ℕ) (mem' : List ℕ) (m' : Machine) (cost n' c' : ℕ) →
@@ -121,7 +111,8 @@ module _ (reach : Reach) (in_turns : Bool) (mem₀ : List ℕ) (m₀ : Machine) 
   -- a spent budget ends the run
   pub spends : (mem : List ℕ) (m : Machine) (n c : ℕ) → Here reach in_turns mem₀ m₀ budget mem m n c → budget ≤ n →
       ended 1 mem m n c ≡ run_in reach in_turns budget mem₀ m₀ 0 0
-  unfolding run_from
   spends mem m n c h over =
       let left : budget - n ≡ 0 = omega arith in
-      sym (h.same ∙ ap (λ (x : ℕ). run_in reach in_turns x mem m n c) left)
+      sym
+      (h.same ∙
+      (ap (λ (x : ℕ). run_in reach in_turns x mem m n c) left ∙ run-spent reach (manner_in reach in_turns) mem m n c))

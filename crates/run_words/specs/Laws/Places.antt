@@ -1,5 +1,5 @@
 -- An access that is wholly within the shared bytes lies in memory, and nothing bars it; and what is told apart lies where it is told.
-use Rattle.std.specs.Prelude.{◌≡◌, ℕ, ◌+◌, ◌<◌, ◌≤◌, T, leb}
+use Rattle.std.specs.Prelude.{Result, Ok, Err, ◌≡◌, ℕ, ◌+◌, ◌<◌, ◌≤◌, T, leb}
 use Rattle.std.proofs.Math.Path.{subst⁻¹}
 use Rattle.std.proofs.Common.{arith, le-leb, ne_eqb, leb→le}
 use Rattle.plain.specs.Answer.{gives}
@@ -8,13 +8,13 @@ use Rattle.machine.specs.Limits.{memory_length}
 use Rattle.machine.specs.Memory.{size, place_of}
 use Rattle.machine.proofs.Laws.Bars.{shared-free}
 use Rattle.machine.specs.declared.Reach.{Reach}
+use Rattle.machine.specs.declared.refusal.Refusal.{Refusal}
 use Rattle.machine.specs.declared.Width.{Width}
 use Rattle.machine.specs.declared.Width.TheVariants.{Byte, Word, Long}
 use Rattle.machine.specs.declared.Place.TheVariants.{Memory}
 use Rattle.reach.specs.Spots.{width_of, spot_of, ToldApart}
+use Rattle.reach.specs.declared.Spot.{Spot}
 use Rattle.reach.specs.declared.Spot.TheVariants as spot
-use Rattle.reach.specs.declared.Reached.{Reached}
-use Rattle.reach.specs.declared.Reached.TheVariants as reached
 use Rattle.run_words.specs.Accesses.{ReachedWithin}
 
 -- no access has more than four bytes
@@ -37,12 +37,12 @@ shared-place reach w a limit h =
     rw (le-leb (a + size w) memory_length inside, shared-free reach (size w) a limit within)
 
 -- what is told apart as an access to the own part lies in it, and what is to the whole of a cell is to one of them
-pub told-within : (reach : Reach) (w : Width) (r : Reached) → ToldApart reach w r → ReachedWithin reach w r
-told-within reach w (reached.At (spot.Memory a)) h = tt
-told-within reach w (reached.At (spot.Own a)) h =
+pub told-within : (reach : Reach) (w : Width) (r : Result Spot Refusal) → ToldApart reach w r → ReachedWithin reach w r
+told-within reach w (Ok (spot.Memory a)) h = tt
+told-within reach w (Ok (spot.Own a)) h =
     let t = both-parts (leb reach.own a) (leb (a + size w) reach.end) (subst⁻¹ T h tt) in
     (leb→le reach.own a t.0, leb→le (a + size w) reach.end t.1)
-told-within reach w (reached.At (spot.Local k)) h = h
-told-within reach w (reached.At (spot.Cell k)) h = h
-told-within reach w (reached.At (spot.View a)) h = tt
-told-within reach w (reached.Refused number) h = tt
+told-within reach w (Ok (spot.Local k)) h = h
+told-within reach w (Ok (spot.Cell k)) h = h
+told-within reach w (Ok (spot.View a)) h = tt
+told-within reach w (Err why) h = tt

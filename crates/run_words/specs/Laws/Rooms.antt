@@ -1,5 +1,5 @@
 -- What an answer of a check that gives something tells of the pointers.
-use Rattle.std.specs.Prelude.{◌≡◌, refl, Bool, true, false, List, ℕ, ◌+◌, ◌-◌, ◌*◌, ◌≤◌, ◌<◌, ltb, leb, eqb}
+use Rattle.std.specs.Prelude.{Option, Some, None, Result, Ok, ◌≡◌, refl, Bool, true, false, List, ℕ, ◌+◌, ◌-◌, ◌*◌, ◌≤◌, ◌<◌, ltb, leb, eqb}
 use Rattle.std.proofs.Common.{subst, arith, ltb-false, leb-true, leb-false}
 use Rattle.std.proofs.lemmas.Bool.{eqb-false}
 use Rattle.std.proofs.Math.ListN.{get_or}
@@ -10,18 +10,15 @@ use Rattle.machine.specs.Limits.{memory_length}
 use Rattle.machine.specs.Reach.{bar_of, is_foreign}
 use Rattle.machine.specs.Memory.{size, view_start, view_end, place_of}
 use Rattle.machine.specs.declared.Reach.{Reach}
+use Rattle.machine.specs.declared.refusal.Refusal.{Refusal}
 use Rattle.machine.specs.declared.Width.{Width}
 use Rattle.machine.specs.declared.Place.{Place}
 use Rattle.machine.specs.declared.Place.TheVariants.{Memory, View, Nowhere}
 use Rattle.reach.specs.Spots.{allowed, spot_of}
 use Rattle.reach.specs.declared.Spot.{Spot}
-use Rattle.reach.specs.declared.Reached.{Reached}
-use Rattle.reach.specs.declared.Reached.TheVariants as reached
 use Rattle.run_words.specs.Accesses.{reach_of, SpotWithin, ReachedWithin}
 use Rattle.run_words.specs.Levels.{view_cells}
 use Rattle.run_words.specs.Verdicts.{pushable, readable, callable, catchable, throwable, exitable, returnable}
-use Rattle.run_words.specs.declared.Throw.{Throw}
-use Rattle.run_words.specs.declared.Throw.TheVariants.{Zero, Code}
 use Rattle.run_words.specs.Laws.Drops.{positive}
 use Rattle.run_words.specs.Laws.Answered.{apart}
 
@@ -71,18 +68,18 @@ return-room block {s} e =
     let rest = passed (eqb block 0) 16 (pick (eqb s 0) (refuses 16) (gives tt)) tt e in
     positive s (eqb-false s 0 (passed (eqb s 0) 16 (gives tt) tt rest.1).0)
 
-pub zero_room : (cells : List ℕ) {p : ℕ} (e : ℕ) {throw : Throw} → throwable cells p e ≡ gives throw → 1 ≤ p
+pub zero_room : (cells : List ℕ) {p : ℕ} (e : ℕ) {throw : Option ℕ} → throwable cells p e ≡ gives throw → 1 ≤ p
 unfolding throwable
 zero_room cells {p} e {throw} h =
     ltb-false p 1
-    (passed (ltb p 1) 5 (pick (eqb (get_or cells (p - 1) 0) 0) (gives Zero) (pick (eqb e 0) (refuses 7) (gives (Code (get_or cells (p - 1) 0))))) throw h).0
+    (passed (ltb p 1) 5 (pick (eqb (get_or cells (p - 1) 0) 0) (gives None) (pick (eqb e 0) (refuses 7) (gives (Some (get_or cells (p - 1) 0))))) throw h).0
 
-pub code-room : (cells : List ℕ) (p : ℕ) {e n : ℕ} → throwable cells p e ≡ gives (Code n) → 0 < e
+pub code-room : (cells : List ℕ) (p : ℕ) {e n : ℕ} → throwable cells p e ≡ gives (Some n) → 0 < e
 unfolding throwable
 code-room cells p {e} {n} h = go (ltb p 1) (eqb (get_or cells (p - 1) 0) 0) (eqb e 0) refl h
   where
     go : (a b d : Bool) → eqb e 0 ≡ d →
-        pick a (refuses 5) (pick b (gives Zero) (pick d (refuses 7) (gives (Code (get_or cells (p - 1) 0))))) ≡ gives (Code n) → 0 < e
+        pick a (refuses 5) (pick b (gives None) (pick d (refuses 7) (gives (Some (get_or cells (p - 1) 0))))) ≡ gives (Some n) → 0 < e
     go true b d t h = apart cc
     go false true d t h = apart cc
     go false false true t h = apart cc
@@ -131,5 +128,5 @@ module _ (reach : Reach) (w : Width) (cells : List ℕ) {takes p : ℕ} where
   view-room e = reaches e
 
 -- what is told apart, where it is known what it is
-pub spot-within : (reach : Reach) (w : Width) {r : Reached} {at : Spot} → ReachedWithin reach w r → r ≡ reached.At at → SpotWithin reach w at
+pub spot-within : (reach : Reach) (w : Width) {r : Result Spot Refusal} {at : Spot} → ReachedWithin reach w r → r ≡ Ok at → SpotWithin reach w at
 spot-within reach w h e = subst (ReachedWithin reach w) e h

@@ -6,7 +6,6 @@ use Rattle.std.proofs.Math.Logic.{dite}
 use Rattle.std.proofs.Math.Decide.{ℕ_discrete}
 use Rattle.std.proofs.lemmas.List.{set-get_or}
 use Rattle.plain.specs.Choice.{pick}
-use Rattle.machine.specs.Codes.{cycle_table}
 use Rattle.machine.specs.Limits.{most_budget, tasks_count}
 use Rattle.machine.specs.Lines.{lowest_due, let_in}
 use Rattle.machine.specs.Reach.{task}
@@ -19,6 +18,7 @@ use Rattle.machine.proofs.Laws.Costs.{run-bounded}
 use Rattle.machine.proofs.Laws.Counted.{entered-before}
 use Rattle.machine.proofs.Laws.Kept.{Formed, Good, let-in-good}
 use Rattle.machine.proofs.Laws.Pairs.{paired_at}
+use Rattle.machine.proofs.Laws.Steps.{run-spent}
 use Rattle.machine.proofs.Laws.Turns.{turn-keeps, turn-good, turn-moves, to_go}
 use Rattle.machine.specs.declared.Machine.{Machine}
 use Rattle.machine.specs.declared.Ran.{Ran}
@@ -296,9 +296,9 @@ module _ {quantum budget lined : ℕ} {start : Between} {mem kept rests : List �
             lines-here : lines_enter reach ≡ eqb t 0
             lines-here = ap lines_enter er ∙ lines-of-task t
 
-            pub seat-starts : Bounded reach → {costs : List ℕ} → costs ≡ cycle_table →
-                Starts reach mem from-here (get_or rows₁ t []) (get_or copies₁ t []) turn costs true
-            seat-starts bounded priced =
+            pub seat-starts : Bounded reach →
+                Starts reach mem from-here (get_or rows₁ t []) (get_or copies₁ t []) turn true
+            seat-starts bounded =
                 record {
                   accepted =
                       accept mem from-here turn
@@ -306,7 +306,6 @@ module _ {quantum budget lined : ℕ} {start : Between} {mem kept rests : List �
                   whole = o.whole₁;
                   laid = o.seats₁.laid t seat-within;
                   bounded = bounded;
-                  priced = priced;
                   calm = subst⁻¹ (λ (b : Bool). Calm b from-here.lines from-here.links.r from-here.links.s) lines-here o.calm₁;
                   unheeded = λ h. subst⁻¹ (λ (b : Bool). Quiet b from-here.lines) lines-here (o.unheeded₁ h);
                   unasked = λ off. absurd (subst T off tt);
@@ -352,8 +351,9 @@ module _ {quantum budget lined : ℕ} {start : Between} {mem kept rests : List �
 
                 -- nothing is left of it
                 spent-run : g.unspent.0 ≡ 0 → run_from (task t) (as_task t) g.unspent.0 mem' m' n g.cycles.0 ≡ after_of mem' (ran_by true)
-                unfolding run_from
-                spent-run z = ap (λ (k : ℕ). run_from (task t) (as_task t) k mem' m' n g.cycles.0) z
+                spent-run z =
+                    ap (λ (k : ℕ). run_from (task t) (as_task t) k mem' m' n g.cycles.0) z ∙
+                    run-spent (task t) (as_task t) mem' m' n g.cycles.0
 
                 record Facts (b : Bool) : Type 0 where
                   short : n ≤ turn

@@ -7,16 +7,16 @@ use native.Mathlib.Omega.{arith}
 use Rattle.plain.specs.Choice.{pick}
 use Rattle.links.specs.declared.Frame.{Frame}
 use Rattle.links.specs.declared.Level.{Level}
-use Rattle.machine.specs.Codes.{cycle_table}
 use Rattle.machine.specs.Limits.{memory_length, most_budget}
 use Rattle.machine.specs.Lines.{none, lowest_due, let_in}
-use Rattle.machine.specs.Run.{ended, run_from, acceptable}
+use Rattle.machine.specs.Run.{ended, acceptable}
 use Rattle.machine.specs.State.{Whole}
 use Rattle.machine.specs.Sum.{sum_after}
 use Rattle.machine.proofs.Laws.Accepted.{taken, accept}
 use Rattle.machine.specs.Added.{added}
 use Rattle.machine.proofs.Laws.Counted.{counted-on, counted-later, entered-before}
 use Rattle.machine.proofs.Laws.Kept.{Formed, let-in-good}
+use Rattle.machine.proofs.Laws.Steps.{run-spent}
 use Rattle.machine.specs.declared.Machine.{Machine}
 use Rattle.machine.specs.declared.Reach.{Reach}
 use Rattle.machine.specs.declared.Steps.{Steps}
@@ -40,10 +40,9 @@ pub record Onward (reach : Reach) (mem₀ : List ℕ) (m₀ : Machine) (budget :
   pub whole : Whole m
   pub formed : Formed m
 
-pub record Serving (reach : Reach) (mem₀ : List ℕ) (m₀ : Machine) (budget lost₀ : ℕ) (costs mem cells returns : List ℕ) (rows : List (List ℕ)) (copies : List ℕ) (g : Registers) : Type 0 where
+pub record Serving (reach : Reach) (mem₀ : List ℕ) (m₀ : Machine) (budget lost₀ : ℕ) (mem cells returns : List ℕ) (rows : List (List ℕ)) (copies : List ℕ) (g : Registers) : Type 0 where
   pub bounded : Bounded reach
   pub lined : lines_enter reach ≡ true
-  pub prices : costs ≡ cycle_table
   pub limit : budget ≤ most_budget
   pub left-within : g.left.0 ≤ budget
   pub unspent-within : g.unspent.0 ≤ budget
@@ -58,12 +57,12 @@ pub record Serving (reach : Reach) (mem₀ : List ℕ) (m₀ : Machine) (budget 
       ended g.answer mem (in_rows cells returns rows copies (pointers_in g)) (budget - g.unspent.0) g.cycles.0 ≡ run_in reach false budget mem₀ m₀ 0 0
 
 -- by whatever name its registers go
-pub serving-as : {reach : Reach} {mem₀ : List ℕ} {m₀ : Machine} {budget lost₀ : ℕ} {costs mem cells returns : List ℕ} {rows : List (List ℕ)} {copies : List ℕ} {g g' : Registers} →
-    g' ≡ g → Serving reach mem₀ m₀ budget lost₀ costs mem cells returns rows copies g → Serving reach mem₀ m₀ budget lost₀ costs mem cells returns rows copies g'
-serving-as {reach} {mem₀} {m₀} {budget} {lost₀} {costs} {mem} {cells} {returns} {rows} {copies} = subst⁻¹ (Serving reach mem₀ m₀ budget lost₀ costs mem cells returns rows copies)
+pub serving-as : {reach : Reach} {mem₀ : List ℕ} {m₀ : Machine} {budget lost₀ : ℕ} {mem cells returns : List ℕ} {rows : List (List ℕ)} {copies : List ℕ} {g g' : Registers} →
+    g' ≡ g → Serving reach mem₀ m₀ budget lost₀ mem cells returns rows copies g → Serving reach mem₀ m₀ budget lost₀ mem cells returns rows copies g'
+serving-as {reach} {mem₀} {m₀} {budget} {lost₀} {mem} {cells} {returns} {rows} {copies} = subst⁻¹ (Serving reach mem₀ m₀ budget lost₀ mem cells returns rows copies)
 
-module _ {reach : Reach} {mem₀ : List ℕ} {m₀ : Machine} {budget lost₀ : ℕ} {costs mem cells returns : List ℕ} {rows : List (List ℕ)} {copies : List ℕ} {g : Registers}
-    (now : Serving reach mem₀ m₀ budget lost₀ costs mem cells returns rows copies g) (less : 0 < g.left.0)
+module _ {reach : Reach} {mem₀ : List ℕ} {m₀ : Machine} {budget lost₀ : ℕ} {mem cells returns : List ℕ} {rows : List (List ℕ)} {copies : List ℕ} {g : Registers}
+    (now : Serving reach mem₀ m₀ budget lost₀ mem cells returns rows copies g) (less : 0 < g.left.0)
   where
     abbrev here : Machine
     here = in_rows cells returns rows copies (pointers_in g)
@@ -83,7 +82,7 @@ module _ {reach : Reach} {mem₀ : List ℕ} {m₀ : Machine} {budget lost₀ : 
             let k = let-in-good true mem here o.whole o.formed in
             (subst⁻¹ Whole entered k.whole, subst⁻¹ Formed entered k.formed)
 
-        pub stretch-starts : Starts reach mem there rows₁ copies₁ g.left.0 costs true
+        pub stretch-starts : Starts reach mem there rows₁ copies₁ g.left.0 true
         stretch-starts =
             record {
               accepted =
@@ -92,7 +91,6 @@ module _ {reach : Reach} {mem₀ : List ℕ} {m₀ : Machine} {budget lost₀ : 
               whole = good.0;
               laid = lets.laid;
               bounded = now.bounded;
-              priced = now.prices;
               calm = subst⁻¹ (λ (b : Bool). Calm b (note_in rows₁).aside.lines to.r to.s) now.lined lets.calm;
               unheeded = λ h. inr (lets.quiet-kept (now.unheeded (sym lets.heeds-same ∙ h)));
               unasked = λ off. absurd (subst T off tt);
@@ -145,12 +143,11 @@ module _ {reach : Reach} {mem₀ : List ℕ} {m₀ : Machine} {budget lost₀ : 
             serving-then : (left unspent : Steps) (answer : ℕ) (again : Bool) → left.0 ≤ budget → unspent.0 ≤ budget → cycles ≤ 42 * (budget - left.0) →
                 (0 < left.0 → Onward reach mem₀ m₀ budget mem' m' (regs-then left unspent answer again)) →
                 (left.0 ≤ 0 → ended answer mem' m' (budget - unspent.0) cycles ≡ run_in reach false budget mem₀ m₀ 0 0) →
-                Serving reach mem₀ m₀ budget lost₀ costs mem' cells' returns' rows' copies' (regs-then left unspent answer again)
+                Serving reach mem₀ m₀ budget lost₀ mem' cells' returns' rows' copies' (regs-then left unspent answer again)
             serving-then left unspent answer again left-within unspent-within priced going over =
                 record {
                   bounded = now.bounded;
                   lined = now.lined;
-                  prices = now.prices;
                   limit = now.limit;
                   left-within = left-within;
                   unspent-within = unspent-within;
@@ -165,7 +162,7 @@ module _ {reach : Reach} {mem₀ : List ℕ} {m₀ : Machine} {budget lost₀ : 
                 }
 
             -- it is over
-            ended-then : after.again ≡ false → Serving reach mem₀ m₀ budget lost₀ costs mem' cells' returns' rows' copies' over-regs
+            ended-then : after.again ≡ false → Serving reach mem₀ m₀ budget lost₀ mem' cells' returns' rows' copies' over-regs
             ended-then not =
                 let l = ends.leaves in
                 let within = l.unspent-within in
@@ -180,8 +177,7 @@ module _ {reach : Reach} {mem₀ : List ℕ} {m₀ : Machine} {budget lost₀ : 
                 (ap (added n c) (ends.same not) ∙ (sym (same_from n c) ∙ sym (now.going less).rest)))
 
             -- it goes on
-            on_then : after.again ≡ true → Serving reach mem₀ m₀ budget lost₀ costs mem' cells' returns' rows' copies' on-regs
-            unfolding run_from
+            on_then : after.again ≡ true → Serving reach mem₀ m₀ budget lost₀ mem' cells' returns' rows' copies' on-regs
             on_then is =
                 let o = ends.goes is in
                 let fewer = o.less in
@@ -203,12 +199,13 @@ module _ {reach : Reach} {mem₀ : List ℕ} {m₀ : Machine} {budget lost₀ : 
                 sym
                 (rest ∙
                 (ap (λ (k : ℕ). run_in reach false k mem' m' (budget - after.unspent.0) cycles) none ∙
-                ap (λ (k : ℕ). run_in reach false 0 mem' m' k cycles) (sym all))))
+                (run-spent reach (manner_in reach false) mem' m' (budget - after.unspent.0) cycles ∙
+                ap (λ (k : ℕ). ended 1 mem' m' k cycles) (sym all)))))
 
-            pub stretched : {g' : Registers} → g' ≡ joined_to g after → Serving reach mem₀ m₀ budget lost₀ costs mem' cells' returns' rows' copies' g'
+            pub stretched : {g' : Registers} → g' ≡ joined_to g after → Serving reach mem₀ m₀ budget lost₀ mem' cells' returns' rows' copies' g'
             stretched eg = serving-as eg (go after.again refl)
               where
-                go : (b : Bool) → after.again ≡ b → Serving reach mem₀ m₀ budget lost₀ costs mem' cells' returns' rows' copies' (pick b on-regs over-regs)
+                go : (b : Bool) → after.again ≡ b → Serving reach mem₀ m₀ budget lost₀ mem' cells' returns' rows' copies' (pick b on-regs over-regs)
                 go true is = on_then is
                 go false not = ended-then not
 
@@ -285,19 +282,17 @@ module _ (cells returns : List ℕ) {rows : List (List ℕ)} {copies : List ℕ}
           }
 
 -- it starts
-pub serving-first : {reach : Reach} {mem : List ℕ} {cells returns : List ℕ} {rows : List (List ℕ)} {copies : List ℕ} {start : Pointers} {left : ℕ} {costs : List ℕ} →
-    acceptable mem (in_rows cells returns rows copies start) left ≡ true → Whole (in_rows cells returns rows copies start) → Laid rows copies → Bounded reach → costs ≡ cycle_table →
+pub serving-first : {reach : Reach} {mem : List ℕ} {cells returns : List ℕ} {rows : List (List ℕ)} {copies : List ℕ} {start : Pointers} {left : ℕ} →
+    acceptable mem (in_rows cells returns rows copies start) left ≡ true → Whole (in_rows cells returns rows copies start) → Laid rows copies → Bounded reach →
     lines_enter reach ≡ true → ((note_in rows).heeds ≡ 0 → lowest_due (note_in rows).aside.lines ≡ none) →
-    Serving reach mem (in_rows cells returns rows copies start) left (note_in rows).lost costs mem cells returns rows copies (begun_at start left)
-unfolding run_from
-serving-first {reach} {mem} {cells} {returns} {rows} {copies} {start} {left} {costs} accepted whole laid bounded priced lined unheeded =
+    Serving reach mem (in_rows cells returns rows copies start) left (note_in rows).lost mem cells returns rows copies (begun_at start left)
+serving-first {reach} {mem} {cells} {returns} {rows} {copies} {start} {left} accepted whole laid bounded lined unheeded =
     let m = in_rows cells returns rows copies start in
     let t = taken mem m left accepted in
     let rest : run_in reach false left mem m 0 0 ≡ run_in reach false left mem m (left - left) 0 = ap (λ (n : ℕ). run_in reach false left mem m n 0) (omega arith) in
     record {
       bounded = bounded;
       lined = lined;
-      prices = priced;
       limit = t.budget-within;
       left-within = omega arith;
       unspent-within = omega arith;
@@ -311,7 +306,10 @@ serving-first {reach} {mem} {cells} {returns} {rows} {copies} {start} {left} {co
       over = λ spent.
           let zero : left ≡ 0 = omega arith in
           let all : left - left ≡ left - 0 = omega arith in
-          sym (rest ∙ (ap (λ (k : ℕ). run_in reach false k mem m (left - left) 0) zero ∙ ap (λ (k : ℕ). run_in reach false 0 mem m k 0) all));
+          sym
+          (rest ∙
+          (ap (λ (k : ℕ). run_in reach false k mem m (left - left) 0) zero ∙
+          (run-spent reach (manner_in reach false) mem m (left - left) 0 ∙ ap (λ (k : ℕ). ended 1 mem m k 0) all)));
     }
 
 -- registers that are parked leave the machine as it was
@@ -319,19 +317,18 @@ module _ {rows rows' : List (List ℕ)} {copies copies' : List ℕ} {g : Registe
   pub machine-parked : (cells returns : List ℕ) (at : Pointers) → in_rows cells returns rows' copies' at ≡ in_rows cells returns rows copies at
   machine-parked = held_same rows copies parks.held refl
 
-  pub serving-parked : {reach : Reach} {mem₀ : List ℕ} {m₀ m₁ : Machine} {budget lost₀ lost₁ : ℕ} {costs mem cells returns : List ℕ} →
-      m₁ ≡ m₀ → lost₁ ≡ lost₀ → g.again ≡ false → Serving reach mem₀ m₀ budget lost₀ costs mem cells returns rows copies g →
-      Serving reach mem₀ m₁ budget lost₁ costs mem cells returns rows' copies' (parked_in rows' copies')
-  serving-parked {reach} {mem₀} {m₀} {m₁} {budget} {lost₀} {lost₁} {costs} {mem} {cells} {returns} em el not now =
-      subst⁻¹ (Serving reach mem₀ m₁ budget lost₁ costs mem cells returns rows' copies') (parks.parked not)
-      (subst⁻¹ (λ (m : Machine). Serving reach mem₀ m budget lost₁ costs mem cells returns rows' copies' g) em
-      (subst⁻¹ (λ (l : ℕ). Serving reach mem₀ m₀ budget l costs mem cells returns rows' copies' g) el
+  pub serving-parked : {reach : Reach} {mem₀ : List ℕ} {m₀ m₁ : Machine} {budget lost₀ lost₁ : ℕ} {mem cells returns : List ℕ} →
+      m₁ ≡ m₀ → lost₁ ≡ lost₀ → g.again ≡ false → Serving reach mem₀ m₀ budget lost₀ mem cells returns rows copies g →
+      Serving reach mem₀ m₁ budget lost₁ mem cells returns rows' copies' (parked_in rows' copies')
+  serving-parked {reach} {mem₀} {m₀} {m₁} {budget} {lost₀} {lost₁} {mem} {cells} {returns} em el not now =
+      subst⁻¹ (Serving reach mem₀ m₁ budget lost₁ mem cells returns rows' copies') (parks.parked not)
+      (subst⁻¹ (λ (m : Machine). Serving reach mem₀ m budget lost₁ mem cells returns rows' copies' g) em
+      (subst⁻¹ (λ (l : ℕ). Serving reach mem₀ m₀ budget l mem cells returns rows' copies' g) el
       (let same = machine-parked cells returns (pointers_in g) in
       let noted = parks.held.note-is in
       record {
         bounded = now.bounded;
         lined = now.lined;
-        prices = now.prices;
         limit = now.limit;
         left-within = now.left-within;
         unspent-within = now.unspent-within;
@@ -345,9 +342,9 @@ module _ {rows rows' : List (List ℕ)} {copies copies' : List ℕ} {g : Registe
         over = λ spent. ap (λ (m : Machine). ended g.answer mem m (budget - g.unspent.0) g.cycles.0) same ∙ now.over spent;
       })))
 
-pub serving-last : {reach : Reach} {mem₀ : List ℕ} {m₀ m₁ : Machine} {budget lost₀ lost₁ : ℕ} → m₀ ≡ m₁ → lost₀ ≡ lost₁ → {costs mem cells returns : List ℕ} {rows : List (List ℕ)} {copies : List ℕ} {g : Registers} →
-    Serving reach mem₀ m₀ budget lost₀ costs mem cells returns rows copies g → g.left.0 ≤ 0 → Served reach mem₀ m₁ budget lost₁ mem cells returns rows copies g
-serving-last {reach} {mem₀} {m₀} {m₁} {budget} {lost₀} {lost₁} em el {costs} {mem} now spent =
+pub serving-last : {reach : Reach} {mem₀ : List ℕ} {m₀ m₁ : Machine} {budget lost₀ lost₁ : ℕ} → m₀ ≡ m₁ → lost₀ ≡ lost₁ → {mem cells returns : List ℕ} {rows : List (List ℕ)} {copies : List ℕ} {g : Registers} →
+    Serving reach mem₀ m₀ budget lost₀ mem cells returns rows copies g → g.left.0 ≤ 0 → Served reach mem₀ m₁ budget lost₁ mem cells returns rows copies g
+serving-last {reach} {mem₀} {m₀} {m₁} {budget} {lost₀} {lost₁} em el {mem} now spent =
     record {
       leaves =
           record {

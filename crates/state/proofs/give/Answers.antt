@@ -8,4 +8,4 @@ pub returns-then-state-ne-SIZE : goal.returns-then-state-ne-SIZE
 returns-then-state-ne-SIZE c = wrong_size c.if-state-ne-SIZE.true
 
 pub returns : goal.returns
-returns c = put_whole state c.args.machine c.args.state.now _ c.if-state-ne-SIZE.false c.put_machine.ensures
+returns c = put_whole state c.args.machine c.args.state.now _ c.if-state-ne-SIZE.false c.put.ensures

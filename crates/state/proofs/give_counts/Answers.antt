@@ -10,5 +10,5 @@ returns-then-res-ne-RESULT c = wrong_size c.if-res-ne-RESULT.true
 pub returns : goal.returns
 returns c =
     put_whole result _ c.args.res.now _ c.if-res-ne-RESULT.false
-    (fields-put result_fields _ c.args.res.now 0 _ (c.put_pointer.ensures
-    first c.put_pointer-2.ensures then c.put_pointer-3.ensures then c.put_pointer-4.ensures then none))
+    (fields-put result_fields _ c.args.res.now 0 _ (c.put.ensures
+    first c.put-2.ensures then c.put-3.ensures then c.put-4.ensures then none))

@@ -9,4 +9,4 @@ pub returns-then-bytes-ne-TASKS : goal.returns-then-bytes-ne-TASKS
 returns-then-bytes-ne-TASKS c = wrong_size c.if-bytes-ne-TASKS.true
 
 pub returns : goal.returns
-returns c = put_whole tasks (tasks_in c.args.tasks) c.args.bytes.now _ c.if-bytes-ne-TASKS.false c.put_tasks.ensures
+returns c = put_whole tasks (tasks_in c.args.tasks) c.args.bytes.now _ c.if-bytes-ne-TASKS.false c.put.ensures

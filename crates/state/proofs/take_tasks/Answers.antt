@@ -1,19 +1,17 @@
 -- Another length is refused; else the tasks that stand at the front are the whole buffer.
-use mathlib.Core.Path.{◌≡◌, sym, subst, ◌∙◌}
+use mathlib.Core.Path.{◌≡◌, ◌∙◌}
 use native.Mathlib.Omega.{arith}
 use lib.ListN.{length}
 use lib.Seq.{take_all}
-use Rattle.plain.specs.Answer.{refuses}
 use Rattle.state.specs.Layout.{tasks}
-use Rattle.state.specs.Promise.{TakesTasks, not-four, spelled-tasks}
+use Rattle.state.specs.Promise.{not-four, spelled-tasks}
 use Rattle.state.proofs.take_tasks.Goals as goal
 
 pub returns-then-bytes-ne-TASKS : goal.returns-then-bytes-ne-TASKS
-returns-then-bytes-ne-TASKS c =
-    subst (TakesTasks c.args.bytes.now (refuses 2)) (sym c.blank_tasks-tasks.ensures) (not-four c.if-bytes-ne-TASKS.true)
+returns-then-bytes-ne-TASKS c = not-four c.if-bytes-ne-TASKS.true
 
 pub returns : goal.returns
 returns c =
-    let all = c.tasks_at-tasks.ensures.1 in
+    let all = c.read.ensures.1 in
     let long : length c.args.bytes.now ≡ tasks.width = c.if-bytes-ne-TASKS.false in
-    spelled-tasks c.tasks_at-tasks.result long c.tasks_at-tasks.ensures.0 all.fit (all.spelled ∙ take_all tasks.width c.args.bytes.now (omega arith))
+    spelled-tasks _ long c.read.ensures.0 all.fit (all.spelled ∙ take_all tasks.width c.args.bytes.now (omega arith))

@@ -1,26 +1,27 @@
 -- No second answer, and what was given is taken back as it was.
-use Rattle.std.specs.Prelude.{List, ◌≡◌, refl, ℕ, length}
-use Rattle.std.proofs.Common.{sym, ◌∙◌}
+use Rattle.std.specs.Prelude.{Result, Ok, Err, List, ◌≡◌, refl, ℕ, length}
+use Rattle.std.proofs.Common.{sym, ap, ◌∙◌}
 use Rattle.plain.specs.Answer.{Answer, gives}
+use Rattle.std.specs.Result.{result_unwrap_or}
+use Rattle.machine.specs.State.{fresh_machine}
+use Rattle.machine.specs.Refusals.{says}
+use Rattle.machine.specs.declared.refusal.Refusal.{Refusal}
+use Rattle.machine.proofs.Laws.Refusing.{same-refusal, same-said}
 use Rattle.machine.specs.declared.Machine.{Machine}
 use Rattle.machine.proofs.Laws.Pairs.{only-tasks-in}
 use Rattle.machine.specs.declared.Tasks.{Tasks}
 use Rattle.machine.specs.Tasks.{Four, tasks_in}
 use Rattle.state.specs.Parts.{Part}
 use Rattle.state.specs.Layout.{state, tasks}
-use Rattle.state.specs.Promise.{says_verdict, Takes, wrong-length, spelled, TakesTasks, not-four, spelled-tasks, Gives, wrong_size, filled}
+use Rattle.state.specs.Promise.{says_taken, taken_machine, blank_tasks, taken_tasks, Takes, wrong-length, spelled, TakesTasks, not-four, spelled-tasks, Gives, wrong_size, filled}
 use Rattle.state.specs.Laws.Spelling.{state-sound, tasks-sound}
-use Rattle.state.specs.declared.Taken.{Taken}
-use Rattle.state.specs.declared.TakenTasks.{TakenTasks}
-use Rattle.state.specs.declared.Verdict.{Verdict}
-use Rattle.state.specs.declared.Verdict.TheVariants.{Good, Refused}
 
--- a verdict says one thing only
-only-verdict : (v w : Verdict) → says_verdict v ≡ says_verdict w → v ≡ w
-only-verdict Good Good e = refl
-only-verdict Good (Refused n) e = cc
-only-verdict (Refused n) Good e = cc
-only-verdict (Refused n) (Refused k) e = cc
+-- what says one thing and stands for one value is one answer, whatever a refusal stands for
+same-taken : {A : Type 0} (fresh : A) (t u : Result A Refusal) → says_taken t ≡ says_taken u → result_unwrap_or t fresh ≡ result_unwrap_or u fresh → t ≡ u
+same-taken fresh (Ok a) (Ok b) e f = ap Ok f
+same-taken fresh (Ok a) (Err why) e f = cc
+same-taken fresh (Err why) (Ok b) e f = cc
+same-taken fresh (Err why) (Err other) e f = ap Err (same-refusal why other (cc))
 
 record SameTaken (a b : Answer (Unit {0})) (m n : Machine) : Type 0 where
   same_answer : a ≡ b
@@ -33,11 +34,11 @@ only-takes bytes a b m n (spelled _ long fit is) (wrong-length k) = absurd (k lo
 only-takes bytes a b m n (spelled _ long fit is) (spelled _ also fits same) =
     record { same_answer = refl; same-machine = state-sound.only m n fit fits (is ∙ sym same) }
 
-pub only-take : (bytes : List ℕ) (t u : Taken) → Takes bytes (says_verdict t.verdict) t.machine → Takes bytes (says_verdict u.verdict) u.machine → t ≡ u
+pub only-take : (bytes : List ℕ) (t u : Result Machine Refusal) → Takes bytes (says_taken t) (taken_machine t)
+    → Takes bytes (says_taken u) (taken_machine u) → t ≡ u
 only-take bytes t u h k =
     let same = only-takes bytes _ _ _ _ h k in
-    let verdict : t.verdict ≡ u.verdict = only-verdict t.verdict u.verdict same.same_answer in
-    λ i. record { verdict = verdict i; machine = same.same-machine i }
+    same-taken fresh_machine t u same.same_answer same.same-machine
 
 record SameTasks (a b : Answer (Unit {0})) (t u : Tasks) : Type 0 where
   same_answer : a ≡ b
@@ -50,12 +51,11 @@ only-takes-tasks bytes a b t u (spelled-tasks _ long four fit is) (not-four k) =
 only-takes-tasks bytes a b t u (spelled-tasks _ long four fit is) (spelled-tasks _ also fours fits same) =
     record { same_answer = refl; same-tasks = only-tasks-in t u four fours (tasks-sound.only (tasks_in t) (tasks_in u) fit fits (is ∙ sym same)) }
 
-pub only-take-tasks : (bytes : List ℕ) (t u : TakenTasks) → TakesTasks bytes (says_verdict t.verdict) t.tasks
-    → TakesTasks bytes (says_verdict u.verdict) u.tasks → t ≡ u
+pub only-take-tasks : (bytes : List ℕ) (t u : Result Tasks Refusal) → TakesTasks bytes (says_taken t) (taken_tasks t)
+    → TakesTasks bytes (says_taken u) (taken_tasks u) → t ≡ u
 only-take-tasks bytes t u h k =
     let same = only-takes-tasks bytes _ _ _ _ h k in
-    let verdict : t.verdict ≡ u.verdict = only-verdict t.verdict u.verdict same.same_answer in
-    λ i. record { verdict = verdict i; tasks = same.same-tasks i }
+    same-taken blank_tasks t u same.same_answer same.same-tasks
 
 -- of giving a machine, of giving tasks and of giving a run's counts
 module _ {A : Type 0} (part : Part A) (x : A) (before : List ℕ) where
@@ -65,11 +65,11 @@ module _ {A : Type 0} (part : Part A) (x : A) (before : List ℕ) where
   only-gives a b after other (filled long fit) (wrong_size k) = absurd (k long)
   only-gives a b after other (filled long fit) (filled also fits) = (refl, refl)
 
-  pub only-give : (v w : Verdict) (after other : List ℕ) → Gives part x before (says_verdict v) after → Gives part x before (says_verdict w) other
+  pub only-give : (v w : Result (Unit {0}) Refusal) (after other : List ℕ) → Gives part x before (says v) after → Gives part x before (says w) other
       → (v ≡ w) × (after ≡ other)
   only-give v w after other h k =
-      let same = only-gives (says_verdict v) (says_verdict w) after other h k in
-      (only-verdict v w same.0, same.1)
+      let same = only-gives (says v) (says w) after other h k in
+      (same-said v w same.0, same.1)
 
   given-bytes : (bytes : List ℕ) (a : Answer (Unit {0})) (after : List ℕ) → length before ≡ part.width → part.bytes x ≡ bytes → Gives part x before a after
       → after ≡ bytes

@@ -15,6 +15,7 @@ use Rattle.machine.specs.Step.{Stepped, refused, done, put, cost_of, unless, car
 use Rattle.machine.specs.Run.{After, Manner, ended, passes, run_from}
 use Rattle.machine.proofs.Laws.Along.{along}
 use Rattle.machine.proofs.Laws.Passed.{AllPass, step-done}
+use Rattle.machine.proofs.Laws.Steps.{after_done, run-spent, run-step}
 use Rattle.machine.proofs.Laws.Unbarred.{fetch-unbarred}
 use Rattle.machine.specs.declared.Machine.{Machine}
 use Rattle.machine.specs.declared.Reach.{Reach}
@@ -110,11 +111,8 @@ module _ (reach : Reach) (manner : Manner) where
 
   -- what a step leads to, where it passes the turn and where it does not
   abbrev onward : ℕ → List ℕ → Machine → ℕ → ℕ → Bool → Stepped → After
-  onward left mem m n c passing s =
-      elim s as (λ x. After) [
-        | refused number ↦ ended number mem m n c
-        | done mem' m' cost ↦ pick passing (ended 1 mem' m' (suc n) (c + cost)) (run_from reach manner left mem' m' (suc n) (c + cost))
-      ]
+  onward left mem m n c passing (refused number) = ended number mem m n c
+  onward left mem m n c passing (done mem' m' cost) = after_done reach manner passing left mem' m' (suc n) (c + cost)
 
   same-onward : (left : ℕ) (mem twin : List ℕ) (m : Machine) (n c : ℕ) → Alike reach mem twin → (x y : Bool) (s t : Stepped) →
       ((mem' : List ℕ) (m' : Machine) (k : ℕ) → s ≡ done mem' m' k → x ≡ y) → SameRest left → SameStep reach s t →
@@ -128,11 +126,14 @@ module _ (reach : Reach) (manner : Manner) where
       go false = later mem' twin' m' (suc n) (c + k) then
 
   pub same-run : (left : ℕ) → SameRest left
-  unfolding run_from
-  same-run zero mem twin m n c alike = record { same-ran = refl; alike = alike }
+  same-run zero mem twin m n c alike =
+      rw (run-spent reach manner mem m n c, run-spent reach manner twin m n c)
+      (record { same-ran = refl; alike = alike })
   same-run (suc left) mem twin m n c alike =
       let now = let_in manner.lined m in
       let in_turns = manner.in_turns in
-      same-onward left mem twin now n c alike (passes in_turns mem now) (passes in_turns twin now) (step_of reach mem now) (step_of reach twin now)
+      rw (run-step reach manner left mem m n c, run-step reach manner left twin m n c)
+      (same-onward left mem twin now n c alike (passes in_turns mem now) (passes in_turns twin now)
+      (step_of reach mem now) (step_of reach twin now)
       (λ mem' m' k e. ap (λ (b : ℕ). both in_turns (eqb b code_pause)) (same-code-done reach mem twin now alike mem' m' k e)) (same-run left)
-      (same_step reach mem twin now alike)
+      (same_step reach mem twin now alike))

@@ -12,6 +12,7 @@ use Rattle.machine.specs.Tasks.{Task, task_of, task_at, ready, is_ready, Between
 use Rattle.machine.proofs.Laws.Clash.{clash}
 use Rattle.machine.proofs.Laws.Onward.{run_on, Onward, goes_on, stopped, onward}
 use Rattle.machine.proofs.Laws.Refusals.{refused-leaves}
+use Rattle.machine.proofs.Laws.Steps.{run-spent}
 use Rattle.task_demands.specs.Single.{OnlyReady, singly, told_of_tasks}
 use Rattle.machine.proofs.Laws.After.{as_many, own-task, other-task}
 use Rattle.task_demands.proofs.Laws.Circular.{none-ready}
@@ -108,11 +109,11 @@ onward-claim quantum b t only four end run a k short same (stopped e below is) t
 
 -- a spent budget ends the single run too
 spent-claim : (b : Between) (u : ℕ) → b.left ≡ 0 → is_ready (task_at b.tasks u) ≡ true → Claim b u (ended_at 1 b)
-unfolding run_from
 spent-claim b u e is =
     let m = (task_at b.tasks u).machine in
     let over : from_here b u ≡ ended 1 b.memory m b.steps b.cycles =
-    ap (λ (n : ℕ). run_from (task u) (singly u) n b.memory m b.steps b.cycles) e in
+    ap (λ (n : ℕ). run_from (task u) (singly u) n b.memory m b.steps b.cycles) e ∙
+    run-spent (task u) (singly u) b.memory m b.steps b.cycles in
     let same : set b.tasks u (task_of m 1) ≡ b.tasks =
     ap (λ (n : ℕ). set b.tasks u (task_of m n)) (sym (eqb-true (task_at b.tasks u).kept ready is)) ∙ set-get_or b.tasks u no_task in
     ap (λ (ts : List Task). record { answer = 1; memory = b.memory; tasks = ts; steps = b.steps; cycles = b.cycles }) (sym same)

@@ -1,26 +1,12 @@
 -- A quantum or a budget that 32 bits do not hold is refused as every one above its limit is, whatever the sum.
-use Rattle.std.specs.Prelude.{Bool, true, false, List, ◌≡◌, refl, ℕ, suc, ◌≤◌, ltb}
-use Rattle.std.proofs.Common.{ap, subst, ◌∙◌, arith, le-ltb}
-use Rattle.plain.specs.Choice.{pick}
+use Rattle.std.specs.Prelude.{Bool, true, false, List, ◌≡◌, refl, ℕ}
+use Rattle.std.proofs.Common.{ap, subst, ◌∙◌}
 use Rattle.machine.specs.Limits.{most_budget, most_quantum}
 use Rattle.machine.specs.Tasks.{Task, TasksAfter, tasks_acceptable, RunsTasks, declined, ran}
 use Rattle.machine.specs.Sum.{RunsTasksSummed, sum-declined, sum-taken}
 use Rattle.machine.proofs.Laws.Clash.{clash}
 use Rattle.machine.proofs.Laws.TasksTaken.{taken}
-
--- the nearest number that is above the limit, or the number itself
-abbrev pub narrowed_to : ℕ → ℕ → ℕ
-narrowed_to most number = pick (ltb most number) (suc most) number
-
-within_same : (most number : ℕ) → number ≤ most → narrowed_to most number ≡ number
-within_same most number h = rw (le-ltb most number h)
-
-narrowed-same : (most number : ℕ) → narrowed_to most number ≤ most → narrowed_to most number ≡ number
-narrowed-same most number h = go (ltb most number) refl h
-  where
-    go : (b : Bool) → ltb most number ≡ b → pick b (suc most) number ≤ most → pick b (suc most) number ≡ number
-    go true e h = absurd (omega arith)
-    go false e h = refl
+use Rattle.state.specs.Narrowed.{narrowed_to, within_same, narrowed-same}
 
 module _ (mem : List ℕ) (tasks : List Task) (quantum budget : ℕ) where
   abbrev q : ℕ

@@ -1,6 +1,5 @@
 -- Before pass i the array is the first i cells and zeros above them.
-use mathlib.Core.Path.{◌≡◌}
-use Prim.Native.Nat.{◌≤◌, ◌-◌}
+use Rattle.std.proofs.Common.{◌≡◌}
 use Rattle.links.specs.Depths.{cells_depth}
 use Rattle.numbers.specs.Lists.{list_at}
 use Rattle.plain.specs.Zeros.{padded}
@@ -8,7 +7,4 @@ use Rattle.image.specs.Format.{cell_width}
 use Rattle.image.proofs.place.cells.Given as goal
 
 abbrev pub invariant-loop-i : goal.invariant-loop-i
-invariant-loop-i l = (l.i ≤ l.count) × (l.cells ≡ padded cells_depth (list_at cell_width l.i l.file l.from))
-
-abbrev pub decreases-loop-i : goal.decreases-loop-i
-decreases-loop-i l = l.count - l.i
+invariant-loop-i l = l.cells ≡ padded cells_depth (list_at cell_width l.i l.file l.from)

@@ -1,11 +1,7 @@
--- What is left of the test equals the whole test at every pass; the levels left are the measure.
-use Rattle.std.proofs.Common.{◌≡◌, ◌≤◌}
-use Rattle.links.specs.Depths.{subroutines_depth}
+-- What is left of the test equals the whole test at every pass.
+use Rattle.std.proofs.Common.{◌≡◌}
 use Rattle.links.specs.Linked.{copy_of_r, rises}
 use Rattle.links.proofs.formed.returns_rise.Given as goal
 
 abbrev pub invariant-loop-n : goal.invariant-loop-n
-invariant-loop-n l = (l.n ≤ subroutines_depth) × (rises (copy_of_r l.frames) l.top l.n ≡ rises (copy_of_r l.frames) l.r l.s)
-
-abbrev pub decreases-loop-n : goal.decreases-loop-n
-decreases-loop-n l = l.n
+invariant-loop-n l = rises (copy_of_r l.frames) l.top l.n ≡ rises (copy_of_r l.frames) l.r l.s

@@ -1,64 +1,64 @@
--- Each comparison that fails puts the number above a power of ten, and the one that holds below the next.
+-- Each range that the value is not in puts it above a power of ten, and the one that it is in below the next.
 use Rattle.std.proofs.Common.{arith}
 use Rattle.numbers.proofs.Filling.{few-digits, many-digits}
 use Rattle.numbers.proofs.digits.decimal_length.Goals as goal
 
-pub returns-then-value-lt10 : goal.returns-then-value-lt10
-returns-then-value-lt10 c = few-digits c.args.value (omega arith)
+pub returns-in-0-to-9 : goal.returns-in-0-to-9
+returns-in-0-to-9 c = few-digits c.args.value (omega arith)
 
-pub returns-then-value-lt100 : goal.returns-then-value-lt100
-returns-then-value-lt100 c = many-digits _ c.args.value (omega arith) (omega arith) (omega arith)
+pub returns-in-0-to-99 : goal.returns-in-0-to-99
+returns-in-0-to-99 c = many-digits _ c.args.value (omega arith) (omega arith) (omega arith)
 
-pub returns-then-value-lt1000 : goal.returns-then-value-lt1000
-returns-then-value-lt1000 c = many-digits _ c.args.value (omega arith) (omega arith) (omega arith)
+pub returns-in-0-to-999 : goal.returns-in-0-to-999
+returns-in-0-to-999 c = many-digits _ c.args.value (omega arith) (omega arith) (omega arith)
 
-pub returns-then-value-lt10000 : goal.returns-then-value-lt10000
-returns-then-value-lt10000 c = many-digits _ c.args.value (omega arith) (omega arith) (omega arith)
+pub returns-in-0-to-9999 : goal.returns-in-0-to-9999
+returns-in-0-to-9999 c = many-digits _ c.args.value (omega arith) (omega arith) (omega arith)
 
-pub returns-then-value-lt100000 : goal.returns-then-value-lt100000
-returns-then-value-lt100000 c = many-digits _ c.args.value (omega arith) (omega arith) (omega arith)
+pub returns-in-0-to-99999 : goal.returns-in-0-to-99999
+returns-in-0-to-99999 c = many-digits _ c.args.value (omega arith) (omega arith) (omega arith)
 
-pub returns-then-value-lt1000000 : goal.returns-then-value-lt1000000
-returns-then-value-lt1000000 c = many-digits _ c.args.value (omega arith) (omega arith) (omega arith)
+pub returns-in-0-to-999999 : goal.returns-in-0-to-999999
+returns-in-0-to-999999 c = many-digits _ c.args.value (omega arith) (omega arith) (omega arith)
 
-pub returns-then-value-lt10000000 : goal.returns-then-value-lt10000000
-returns-then-value-lt10000000 c = many-digits _ c.args.value (omega arith) (omega arith) (omega arith)
+pub returns-in-0-to-9999999 : goal.returns-in-0-to-9999999
+returns-in-0-to-9999999 c = many-digits _ c.args.value (omega arith) (omega arith) (omega arith)
 
-pub returns-then-value-lt100000000 : goal.returns-then-value-lt100000000
-returns-then-value-lt100000000 c = many-digits _ c.args.value (omega arith) (omega arith) (omega arith)
+pub returns-in-0-to-99999999 : goal.returns-in-0-to-99999999
+returns-in-0-to-99999999 c = many-digits _ c.args.value (omega arith) (omega arith) (omega arith)
 
-pub returns-then-value-lt1000000000 : goal.returns-then-value-lt1000000000
-returns-then-value-lt1000000000 c = many-digits _ c.args.value (omega arith) (omega arith) (omega arith)
+pub returns-in-0-to-999999999 : goal.returns-in-0-to-999999999
+returns-in-0-to-999999999 c = many-digits _ c.args.value (omega arith) (omega arith) (omega arith)
 
-pub returns-then-value-lt10000000000 : goal.returns-then-value-lt10000000000
-returns-then-value-lt10000000000 c = many-digits _ c.args.value (omega arith) (omega arith) (omega arith)
+pub returns-in-0-to-9999999999 : goal.returns-in-0-to-9999999999
+returns-in-0-to-9999999999 c = many-digits _ c.args.value (omega arith) (omega arith) (omega arith)
 
-pub returns-then-value-lt100000000000 : goal.returns-then-value-lt100000000000
-returns-then-value-lt100000000000 c = many-digits _ c.args.value (omega arith) (omega arith) (omega arith)
+pub returns-in-0-to-99999999999 : goal.returns-in-0-to-99999999999
+returns-in-0-to-99999999999 c = many-digits _ c.args.value (omega arith) (omega arith) (omega arith)
 
-pub returns-then-value-lt1000000000000 : goal.returns-then-value-lt1000000000000
-returns-then-value-lt1000000000000 c = many-digits _ c.args.value (omega arith) (omega arith) (omega arith)
+pub returns-in-0-to-999999999999 : goal.returns-in-0-to-999999999999
+returns-in-0-to-999999999999 c = many-digits _ c.args.value (omega arith) (omega arith) (omega arith)
 
-pub returns-then-value-lt10000000000000 : goal.returns-then-value-lt10000000000000
-returns-then-value-lt10000000000000 c = many-digits _ c.args.value (omega arith) (omega arith) (omega arith)
+pub returns-in-0-to-9999999999999 : goal.returns-in-0-to-9999999999999
+returns-in-0-to-9999999999999 c = many-digits _ c.args.value (omega arith) (omega arith) (omega arith)
 
-pub returns-then-value-lt100000000000000 : goal.returns-then-value-lt100000000000000
-returns-then-value-lt100000000000000 c = many-digits _ c.args.value (omega arith) (omega arith) (omega arith)
+pub returns-in-0-to-99999999999999 : goal.returns-in-0-to-99999999999999
+returns-in-0-to-99999999999999 c = many-digits _ c.args.value (omega arith) (omega arith) (omega arith)
 
-pub returns-then-value-lt1000000000000000 : goal.returns-then-value-lt1000000000000000
-returns-then-value-lt1000000000000000 c = many-digits _ c.args.value (omega arith) (omega arith) (omega arith)
+pub returns-in-0-to-999999999999999 : goal.returns-in-0-to-999999999999999
+returns-in-0-to-999999999999999 c = many-digits _ c.args.value (omega arith) (omega arith) (omega arith)
 
-pub returns-then-value-lt10000000000000000 : goal.returns-then-value-lt10000000000000000
-returns-then-value-lt10000000000000000 c = many-digits _ c.args.value (omega arith) (omega arith) (omega arith)
+pub returns-in-0-to-9999999999999999 : goal.returns-in-0-to-9999999999999999
+returns-in-0-to-9999999999999999 c = many-digits _ c.args.value (omega arith) (omega arith) (omega arith)
 
-pub returns-then-value-lt100000000000000000 : goal.returns-then-value-lt100000000000000000
-returns-then-value-lt100000000000000000 c = many-digits _ c.args.value (omega arith) (omega arith) (omega arith)
+pub returns-in-0-to-99999999999999999 : goal.returns-in-0-to-99999999999999999
+returns-in-0-to-99999999999999999 c = many-digits _ c.args.value (omega arith) (omega arith) (omega arith)
 
-pub returns-then-value-lt1000000000000000000 : goal.returns-then-value-lt1000000000000000000
-returns-then-value-lt1000000000000000000 c = many-digits _ c.args.value (omega arith) (omega arith) (omega arith)
+pub returns-in-0-to-999999999999999999 : goal.returns-in-0-to-999999999999999999
+returns-in-0-to-999999999999999999 c = many-digits _ c.args.value (omega arith) (omega arith) (omega arith)
 
-pub returns-then-value-lt10000000000000000000 : goal.returns-then-value-lt10000000000000000000
-returns-then-value-lt10000000000000000000 c = many-digits _ c.args.value (omega arith) (omega arith) (omega arith)
+pub returns-in-0-to-9999999999999999999 : goal.returns-in-0-to-9999999999999999999
+returns-in-0-to-9999999999999999999 c = many-digits _ c.args.value (omega arith) (omega arith) (omega arith)
 
-pub returns : goal.returns
-returns c = many-digits _ c.args.value (omega arith) (omega arith) (omega arith)
+pub returns-in_default : goal.returns-in_default
+returns-in_default c = many-digits _ c.args.value (omega arith) (omega arith) (omega arith)

@@ -1,10 +1,11 @@
--- Where there is room the digits are put, else nothing is touched.
-use Rattle.std.proofs.Common.{rules}
-use Rattle.numbers.proofs.Answering.{put, not-put}
+-- As many digits to the base 10 as the number has are its decimal.
+use Rattle.std.proofs.Common.{ap, ◌∙◌, ℕ, List}
+use Rattle.numbers.specs.Digits.{in_base}
+use Rattle.numbers.specs.Slices.{put_at}
+use Rattle.numbers.proofs.Filling.{in_base-decimal}
 use Rattle.numbers.proofs.digits.write_decimal.Goals as goal
 
-pub returns-then-at-within : goal.returns-then-at-within
-returns-then-at-within c = search (rules, put)
-
 pub returns : goal.returns
-returns c = search (rules, not-put)
+returns c =
+    c.write_digits.ensures ∙ ap (λ (characters : List ℕ). put_at characters c.args.text.now c.args.at)
+    (ap (λ (k : ℕ). in_base 10 k c.args.value) c.decimal_length.ensures ∙ in_base-decimal c.args.value)

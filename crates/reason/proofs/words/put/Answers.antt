@@ -1,14 +1,18 @@
 -- Before each pass so many words and numbers are put; a pass puts one more.
-use mathlib.Core.Path.{sym, ◌∙◌}
-use Rattle.reason.proofs.Filling.{filling-number, filling-letter, filling-short, filling-ends}
-use borrow.Author.Rules.{rules}
+use Rattle.std.proofs.Common.{rules}
+use Rattle.reason.proofs.Filling.{filling_number, filling_other, filling_rest, filling_short, filling_ends}
+use Rattle.reason.proofs.words.put.Goals.{else-letter-eq-MARK-via-else-letter-eq-MARK, else-letter-eq-MARK-via-then-letter-eq-MARK+then-left-lt1}
 use Rattle.reason.proofs.words.put.Goals as goal
 
-pub loop-i-preserved-then-marks : goal.loop-i-preserved-then-marks
-loop-i-preserved-then-marks c = search (rules, filling-number, sym c.marks.ensures ∙ c.if-marks.true)
+pub loop-letter-preserved-in-loop-letter : goal.loop-letter-preserved-in-loop-letter
+loop-letter-preserved-in-loop-letter c = search (rules, filling_number)
 
-pub loop-i-preserved : goal.loop-i-preserved
-loop-i-preserved c = search (rules, filling-letter, sym c.marks.ensures ∙ c.if-marks.false)
+pub loop-letter-preserved : goal.loop-letter-preserved
+loop-letter-preserved c =
+    elim c.else-letter-eq-MARK.branch [
+      | else-letter-eq-MARK-via-else-letter-eq-MARK w ↦ search (rules, filling_other)
+      | else-letter-eq-MARK-via-then-letter-eq-MARK+then-left-lt1 w ↦ search (rules, filling_rest)
+    ]
 
 pub returns : goal.returns
-returns c = search (rules, filling-short, filling-ends)
+returns c = search (rules, filling_short, filling_ends)

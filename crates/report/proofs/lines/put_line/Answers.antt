@@ -1,14 +1,13 @@
 -- Before pass i the text is the first i numbers, each with its space.
-use native.Mathlib.Omega.{arith}
-use Rattle.report.proofs.Growing.{grown-none, grown-more, line-short, line-ends}
-use borrow.Author.Rules.{rules}
+use Rattle.std.proofs.Common.{rules, arith, length-take}
+use Rattle.report.proofs.Growing.{grown_more, line_ends}
 use Rattle.report.proofs.lines.put_line.Goals as goal
 
-pub loop-i-init : goal.loop-i-init
-loop-i-init c = (omega arith, grown-none _ _ _ _ _ _ (omega arith))
-
-pub loop-i-preserved : goal.loop-i-preserved
-loop-i-preserved c = search (rules, grown-more)
+pub loop-value-preserved : goal.loop-value-preserved
+loop-value-preserved c = record { short = omega arith; added = search (rules, grown_more) }
 
 pub returns : goal.returns
-returns c = search (rules, line-short, line-ends)
+returns c = (
+  omega (arith, length-take 9 c.args.numbers),
+  line_ends c.args.numbers _ _ _ _ _ _ _ (omega arith) (omega arith) c.loop-value.invariant.added c.put_field.ensures.1,
+)

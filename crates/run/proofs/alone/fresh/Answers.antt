@@ -5,7 +5,6 @@ use mathlib.Core.Logic.{inr}
 use Rattle.run_words.specs.Calm.{quiet}
 use native.Mathlib.Omega.{arith}
 use Rattle.links.specs.Fresh.{fresh_links}
-use Rattle.machine.specs.Codes.{table, cycle_table}
 use Rattle.machine.specs.Reach.{alone}
 use Rattle.machine.specs.Run.{acceptable, by_itself, run_from}
 use Rattle.machine.specs.State.{Whole}
@@ -16,8 +15,8 @@ use borrow.Author.Rules.{rules}
 use Rattle.run.proofs.alone.fresh.Goals as goal
 
 pub rounds-regs-requires : goal.rounds-regs-requires
-unfolding cycle_table table fresh_links
-rounds-regs-requires c = record { accepted = subst⁻¹ (λ (m : Machine). acceptable c.args.mem.now m c.args.budget ≡ true) (whole_again (fresh_with c.args.filled c.args.p) zeros-fresh refl) c.requires; whole = subst⁻¹ Whole (whole_again (fresh_with c.args.filled c.args.p) zeros-fresh refl) (record { cells-long = search rules; shaped = record { returns-long = refl; frames-long = refl; levels-long = refl } }); laid = zeros-fresh.laid; bounded = record { shared-within = omega arith; end-within = omega arith }; priced = refl; calm = quiet (inr no_due); unheeded = λ h. inr no_due; unasked = λ h. no-heed }
+unfolding fresh_links
+rounds-regs-requires c = record { accepted = subst⁻¹ (λ (m : Machine). acceptable c.args.mem.now m c.args.budget ≡ true) (whole_again (fresh_with c.args.filled c.args.p) zeros-fresh refl) c.requires; whole = subst⁻¹ Whole (whole_again (fresh_with c.args.filled c.args.p) zeros-fresh refl) (record { cells-long = search rules; shaped = record { returns-long = refl; frames-long = refl; levels-long = refl } }); laid = zeros-fresh.laid; bounded = record { shared-within = omega arith; end-within = omega arith }; calm = quiet (inr no_due); unheeded = λ h. inr no_due; unasked = λ h. no-heed }
 
 pub returns : goal.returns
 unfolding fresh_links

@@ -13,7 +13,7 @@ use borrow.Author.Rules.{rules}
 use Rattle.run_entry.proofs.served.served.Goals as goal
 
 pub loop-reach-init : goal.loop-reach-init
-loop-reach-init c = serving-parked (c.park.ensures (attended c.args.cells.now c.args.returns.now c.args.start c.requires.laid c.attend.ensures).still-laid) (ap (λ (g : Registers). in_rows c.args.cells.now c.args.returns.now c.park.new.rows c.park.new.copies (pointers_in g)) ((c.park.ensures (attended c.args.cells.now c.args.returns.now c.args.start c.requires.laid c.attend.ensures).still-laid).parked (ap (λ (g : Registers). g.again) c.begun.ensures) ∙ c.begun.ensures) ∙ machine-parked (c.park.ensures (attended c.args.cells.now c.args.returns.now c.args.start c.requires.laid c.attend.ensures).still-laid) c.args.cells.now c.args.returns.now c.args.start) (ap (λ (n : Note). n.lost) (c.park.ensures (attended c.args.cells.now c.args.returns.now c.args.start c.requires.laid c.attend.ensures).still-laid).held.note-is) (ap (λ (g : Registers). g.again) c.begun.ensures) (serving-as c.begun.ensures (serving-first {start = c.args.start} (subst⁻¹ (λ (m : Machine). acceptable c.args.mem.now m c.args.left ≡ true) (attended c.args.cells.now c.args.returns.now c.args.start c.requires.laid c.attend.ensures).same c.requires.accepted) (subst⁻¹ Whole (attended c.args.cells.now c.args.returns.now c.args.start c.requires.laid c.attend.ensures).same c.requires.whole) (attended c.args.cells.now c.args.returns.now c.args.start c.requires.laid c.attend.ensures).still-laid c.requires.bounded c.requires.priced c.requires.lined (attended c.args.cells.now c.args.returns.now c.args.start c.requires.laid c.attend.ensures).unheeded))
+loop-reach-init c = serving-parked (c.park.ensures (attended c.args.cells.now c.args.returns.now c.args.start c.requires.laid c.attend.ensures).still-laid) (ap (λ (g : Registers). in_rows c.args.cells.now c.args.returns.now c.park.new.rows c.park.new.copies (pointers_in g)) ((c.park.ensures (attended c.args.cells.now c.args.returns.now c.args.start c.requires.laid c.attend.ensures).still-laid).parked (ap (λ (g : Registers). g.again) c.begun.ensures) ∙ c.begun.ensures) ∙ machine-parked (c.park.ensures (attended c.args.cells.now c.args.returns.now c.args.start c.requires.laid c.attend.ensures).still-laid) c.args.cells.now c.args.returns.now c.args.start) (ap (λ (n : Note). n.lost) (c.park.ensures (attended c.args.cells.now c.args.returns.now c.args.start c.requires.laid c.attend.ensures).still-laid).held.note-is) (ap (λ (g : Registers). g.again) c.begun.ensures) (serving-as c.begun.ensures (serving-first {start = c.args.start} (subst⁻¹ (λ (m : Machine). acceptable c.args.mem.now m c.args.left ≡ true) (attended c.args.cells.now c.args.returns.now c.args.start c.requires.laid c.attend.ensures).same c.requires.accepted) (subst⁻¹ Whole (attended c.args.cells.now c.args.returns.now c.args.start c.requires.laid c.attend.ensures).same c.requires.whole) (attended c.args.cells.now c.args.returns.now c.args.start c.requires.laid c.attend.ensures).still-laid c.requires.bounded c.requires.lined (attended c.args.cells.now c.args.returns.now c.args.start c.requires.laid c.attend.ensures).unheeded))
 
 pub let_in-at-requires : goal.let_in-at-requires
 let_in-at-requires c = c.loop-reach.invariant.laid

@@ -14,7 +14,7 @@ use Rattle.run_entry.proofs.served.served.Given as goal
 
 abbrev pub invariant-loop-reach : goal.invariant-loop-reach
 invariant-loop-reach l =
-    Serving l.reach l.initial.mem (in_rows l.initial.cells l.initial.returns l.initial.rows l.initial.copies (pointers_in (parked_in l.initial.rows l.initial.copies))) l.left (note_in l.initial.rows).lost l.costs l.mem l.cells l.returns l.rows l.copies (parked_in l.rows l.copies)
+    Serving l.reach l.initial.mem (in_rows l.initial.cells l.initial.returns l.initial.rows l.initial.copies (pointers_in (parked_in l.initial.rows l.initial.copies))) l.left (note_in l.initial.rows).lost l.mem l.cells l.returns l.rows l.copies (parked_in l.rows l.copies)
 
 abbrev pub decreases-loop-reach : goal.decreases-loop-reach
 decreases-loop-reach l = (parked_in l.rows l.copies).left.0

@@ -1,25 +1,36 @@
 -- The tests are the definition's own, in its order.
+use Rattle.std.specs.Prelude.{ltb, leb}
+use Rattle.std.proofs.Common.{◌∙◌, rules}
+use Rattle.plain.specs.Answer.{refuses, gives}
+use Rattle.plain.specs.Choice.{pick}
+use Rattle.links.specs.Depths.{returns_depth, subroutines_depth, exceptions_depth}
 use Rattle.run_words.specs.Verdicts.{catchable}
 use Rattle.run_words.specs.Laws.Rules.{tests}
-use Rattle.std.proofs.Common.{rules}
+use Rattle.run_instructions.proofs.Testing.{handed_on, refused_first, passed_first}
 use Rattle.run_instructions.proofs.checks.can_catch.Goals as goal
 
-pub returns-then-p-lt1 : goal.returns-then-p-lt1
+pub returns-in_err-cells_there : goal.returns-in_err-cells_there
 unfolding catchable
-returns-then-p-lt1 c = search (rules, tests)
+returns-in_err-cells_there c =
+    handed_on _ _ c.from_residual.ensures.1
+    ∙ refused_first (ltb c.args.p 1) 5 (pick (leb returns_depth c.args.r) (refuses 9) (pick (leb subroutines_depth c.args.s) (refuses 10) (pick (leb exceptions_depth c.args.e) (refuses 11) (gives tt)))) c.in_err-cells_there.ensures
 
-pub returns-then-r-ge-RETURNS : goal.returns-then-r-ge-RETURNS
+pub returns-in_err-return_room : goal.returns-in_err-return_room
 unfolding catchable
-returns-then-r-ge-RETURNS c = search (rules, tests)
+returns-in_err-return_room c =
+    handed_on _ _ c.from_residual-in_err-return_room.ensures.1
+    ∙ passed_first (ltb c.args.p 1) 5 (pick (leb returns_depth c.args.r) (refuses 9) (pick (leb subroutines_depth c.args.s) (refuses 10) (pick (leb exceptions_depth c.args.e) (refuses 11) (gives tt)))) c.in_ok-cells_there.ensures (refused_first (leb returns_depth c.args.r) 9 (pick (leb subroutines_depth c.args.s) (refuses 10) (pick (leb exceptions_depth c.args.e) (refuses 11) (gives tt))) c.in_err-return_room.ensures)
 
-pub returns-then-s-ge-SUBROUTINES : goal.returns-then-s-ge-SUBROUTINES
+pub returns-in_err-level_room : goal.returns-in_err-level_room
 unfolding catchable
-returns-then-s-ge-SUBROUTINES c = search (rules, tests)
+returns-in_err-level_room c =
+    handed_on _ _ c.from_residual-in_err-level_room.ensures.1
+    ∙ passed_first (ltb c.args.p 1) 5 (pick (leb returns_depth c.args.r) (refuses 9) (pick (leb subroutines_depth c.args.s) (refuses 10) (pick (leb exceptions_depth c.args.e) (refuses 11) (gives tt)))) c.in_ok-cells_there.ensures (passed_first (leb returns_depth c.args.r) 9 (pick (leb subroutines_depth c.args.s) (refuses 10) (pick (leb exceptions_depth c.args.e) (refuses 11) (gives tt))) c.in_ok-return_room.ensures (refused_first (leb subroutines_depth c.args.s) 10 (pick (leb exceptions_depth c.args.e) (refuses 11) (gives tt)) c.in_err-level_room.ensures))
 
 pub returns-then-e-ge-EXCEPTIONS : goal.returns-then-e-ge-EXCEPTIONS
 unfolding catchable
-returns-then-e-ge-EXCEPTIONS c = search (rules, tests)
+returns-then-e-ge-EXCEPTIONS c = passed_first (ltb c.args.p 1) 5 (pick (leb returns_depth c.args.r) (refuses 9) (pick (leb subroutines_depth c.args.s) (refuses 10) (pick (leb exceptions_depth c.args.e) (refuses 11) (gives tt)))) c.in_ok-cells_there.ensures (passed_first (leb returns_depth c.args.r) 9 (pick (leb subroutines_depth c.args.s) (refuses 10) (pick (leb exceptions_depth c.args.e) (refuses 11) (gives tt))) c.in_ok-return_room.ensures (passed_first (leb subroutines_depth c.args.s) 10 (pick (leb exceptions_depth c.args.e) (refuses 11) (gives tt)) c.in_ok-level_room.ensures (search (rules, tests))))
 
 pub returns : goal.returns
 unfolding catchable
-returns c = search (rules, tests)
+returns c = passed_first (ltb c.args.p 1) 5 (pick (leb returns_depth c.args.r) (refuses 9) (pick (leb subroutines_depth c.args.s) (refuses 10) (pick (leb exceptions_depth c.args.e) (refuses 11) (gives tt)))) c.in_ok-cells_there.ensures (passed_first (leb returns_depth c.args.r) 9 (pick (leb subroutines_depth c.args.s) (refuses 10) (pick (leb exceptions_depth c.args.e) (refuses 11) (gives tt))) c.in_ok-return_room.ensures (passed_first (leb subroutines_depth c.args.s) 10 (pick (leb exceptions_depth c.args.e) (refuses 11) (gives tt)) c.in_ok-level_room.ensures (search (rules, tests))))

@@ -1,6 +1,5 @@
 -- The row of the level below with another address, and the copies of S and P.
 use Rattle.run_words.specs.Laws.Levels.{caught-made}
-use Rattle.std.proofs.Common.{rules}
 use Rattle.run_levels.proofs.linked.caught.Goals as goal
 
 pub returns : goal.returns

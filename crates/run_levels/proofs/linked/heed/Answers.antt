@@ -1,6 +1,5 @@
 -- One number of the row behind the levels.
 use Rattle.run_words.specs.Laws.Levels.{heed-made}
-use Rattle.std.proofs.Common.{rules}
 use Rattle.run_levels.proofs.linked.heed.Goals as goal
 
 pub returns : goal.returns

@@ -1,6 +1,5 @@
 -- The address, then the code, in the row behind the levels.
 use Rattle.run_words.specs.Laws.Levels.{note-made}
-use Rattle.std.proofs.Common.{rules}
 use Rattle.run_levels.proofs.linked.note.Goals as goal
 
 pub returns : goal.returns

@@ -1,6 +1,5 @@
 -- In the note's row, and behind the copies: no level stands there.
 use Rattle.run_words.specs.Laws.Parking.{park-made}
-use Rattle.std.proofs.Common.{rules}
 use Rattle.run_levels.proofs.linked.park.Goals as goal
 
 pub returns : goal.returns

@@ -1,6 +1,5 @@
 -- One number of the row behind the levels.
 use Rattle.run_words.specs.Laws.Levels.{release-made}
-use Rattle.std.proofs.Common.{rules}
 use Rattle.run_levels.proofs.linked.release.Goals as goal
 
 pub returns : goal.returns

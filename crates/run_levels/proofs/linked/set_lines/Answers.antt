@@ -1,6 +1,5 @@
 -- Mask, waiting requests and block, in the row behind the levels.
 use Rattle.run_words.specs.Laws.Levels.{lines-made}
-use Rattle.std.proofs.Common.{rules}
 use Rattle.run_levels.proofs.linked.set_lines.Goals as goal
 
 pub returns : goal.returns

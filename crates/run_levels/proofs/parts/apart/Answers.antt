@@ -1,7 +1,29 @@
--- The subroutine levels, then the exception levels, then the last THROW and the lines.
-use Rattle.std.proofs.Common.{ap, ◌∙◌, rules}
-use Rattle.run_words.specs.Notes.{Note, with_thrown, with_lines}
+-- No level is written yet. An array of structs is as long as the list of their values.
+use Rattle.std.proofs.Common.{refl, rules}
+use Rattle.links.specs.Depths.{frames_count, levels_count}
+use Rattle.run_words.specs.Levels.{frames_in, levels_in}
+use Rattle.run_words.specs.Laws.Filled.{length-mapped, filled_none}
+use Rattle.run_words.specs.Laws.Levels.{frames-long, levels-long}
 use Rattle.run_levels.proofs.parts.apart.Goals as goal
 
-pub returns : goal.returns
-returns c = record { laid = (c.set_lines.ensures c.levels_apart.new.copies (c.note.ensures c.levels_apart.new.copies c.levels_apart.ensures.laid).laid).laid; frames-are = (c.set_lines.ensures c.levels_apart.new.copies (c.note.ensures c.levels_apart.new.copies c.levels_apart.ensures.laid).laid).frames-are ∙ ((c.note.ensures c.levels_apart.new.copies c.levels_apart.ensures.laid).frames-are ∙ (c.levels_apart.ensures.frames-are ∙ c.frames_apart.ensures.frames-are)); levels-are = (c.set_lines.ensures c.levels_apart.new.copies (c.note.ensures c.levels_apart.new.copies c.levels_apart.ensures.laid).laid).levels-are ∙ ((c.note.ensures c.levels_apart.new.copies c.levels_apart.ensures.laid).levels-are ∙ c.levels_apart.ensures.levels-are); note-is = (c.set_lines.ensures c.levels_apart.new.copies (c.note.ensures c.levels_apart.new.copies c.levels_apart.ensures.laid).laid).note-is ∙ ap (with_lines c.args.lines) ((c.note.ensures c.levels_apart.new.copies c.levels_apart.ensures.laid).note-is ∙ ap (with_thrown c.args.thrown) (c.levels_apart.ensures.note-is ∙ c.frames_apart.ensures.note-is)) }
+pub loop-s-init : goal.loop-s-init
+loop-s-init c =
+    let rows = c.args.rows.now in
+    let copies = c.args.copies.now in
+    record {
+      laid = c.requires;
+      levels-are = refl;
+      note-is = refl;
+      filled = filled_none frames_count c.args.links.frames (frames_in rows copies) (search (rules, length-mapped)) (frames-long rows copies);
+    }
+
+pub loop-e-init : goal.loop-e-init
+loop-e-init c =
+    let rows = c.loop-s.rows in
+    let copies = c.loop-s.copies in
+    record {
+      laid = c.loop-s.invariant.laid;
+      frames-are = refl;
+      note-is = refl;
+      filled = filled_none levels_count c.args.links.levels (levels_in rows copies) (search (rules, length-mapped)) (levels-long rows copies);
+    }

@@ -1,7 +1,5 @@
 -- The locals at the front of the level's row, the address at its end, and the copy of R beside it.
-use Rattle.std.proofs.Common.{◌≡◌, length, arith, rules}
-use Rattle.links.specs.Depths.{locals_count}
-use Rattle.run_words.specs.Laws.Levels.{wide_at}
+use Rattle.std.proofs.Common.{rules}
 use Rattle.run_words.specs.Laws.Parted.{frame-written}
 use Rattle.run_levels.proofs.parts.put_frame.Goals as goal
 

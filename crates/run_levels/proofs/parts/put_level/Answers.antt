@@ -1,8 +1,5 @@
 -- The cells at the front of the level's row, the address at its end, and the copies of S and P beside it.
-use Rattle.std.proofs.Common.{◌≡◌, ◌+◌, length, arith, rules}
-use Rattle.links.specs.Depths.{frames_count}
-use Rattle.links.specs.Depths.{level_cells}
-use Rattle.run_words.specs.Laws.Levels.{wide_at}
+use Rattle.std.proofs.Common.{rules}
 use Rattle.run_words.specs.Laws.Parted.{level-written}
 use Rattle.run_levels.proofs.parts.put_level.Goals as goal
 

@@ -1,5 +1,4 @@
 -- The machine's levels, its last THROW and its lines are those of the rows.
-use Rattle.std.proofs.Common.{rules}
 use Rattle.run_levels.proofs.parts.whole.Goals as goal
 
 pub returns : goal.returns

@@ -1,5 +1,4 @@
 -- What lies in two cells is read in their eight bytes.
-use Rattle.std.proofs.Common.{List, length, ap, arith, rules}
 use Rattle.machine.specs.Memory.{size}
 use Rattle.reach.specs.Spots.{width_of}
 use Rattle.run_words.specs.Laws.Places.{four_bytes}

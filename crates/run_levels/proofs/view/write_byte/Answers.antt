@@ -5,4 +5,4 @@ use Rattle.run_words.specs.Laws.Written.{written}
 use Rattle.run_levels.proofs.view.write_byte.Goals as goal
 
 pub returns : goal.returns
-returns c = λ copies laid. byte-kept c.args.rows.now copies c.args.s c.args.e c.requires.0 c.requires.1.0 laid c.args.at c.requires.1.1 (c.cell_at.ensures copies laid) (written 4 c.cell_at.result 0 (replicate 4 0) (omega arith) c.write_four.ensures) c.args.value (written 1 c.args.value _ c.write_four.new.bytes (omega arith) c.write_one.ensures) c.read_long.ensures c.set_cell_at.new.rows (c.set_cell_at.ensures copies laid)
+returns c = λ copies laid. byte-kept c.args.rows.now copies c.args.s c.args.e c.requires.0 c.requires.1.0 laid c.args.at c.requires.1.1 (c.cell_at.ensures copies laid) (written 4 c.cell_at.result 0 (replicate 4 0) (omega arith) c.write.ensures) c.args.value (written 1 c.args.value _ c.write.new.bytes (omega arith) c.write-2.ensures) c.read.ensures c.set_cell_at.new.rows (c.set_cell_at.ensures copies laid)

@@ -1,12 +1,9 @@
 -- What is written in two cells is written in their eight bytes.
-use Rattle.std.proofs.Common.{List, length, ap, ◌∙◌, arith, rules}
-use lib.Seq.{length-sets}
 use Rattle.machine.specs.Memory.{size}
-use Rattle.numbers.specs.Bytes.{bytes_of}
 use Rattle.reach.specs.Spots.{width_of}
 use Rattle.run_words.specs.Laws.Places.{four_bytes}
 use Rattle.run_words.specs.Laws.Seen.{pair-kept}
 use Rattle.run_levels.proofs.view.write_two_cells.Goals as goal
 
 pub returns : goal.returns
-returns c = λ copies laid. pair-kept c.args.rows.now copies c.args.s c.args.e c.requires.0 c.requires.1.0 laid c.first_of-n.result c.args.at c.first_of-n.ensures.0 c.first_of-n.ensures.1.0 (c.cell_at-first.ensures copies laid) (c.cell_at-second.ensures copies laid) c.put_pair.ensures (size (width_of c.args.code)) c.args.value (c.first_of-n.ensures.1.1 (size (width_of c.args.code)) (four_bytes (width_of c.args.code)) c.requires.1.1) c.write_number.ensures c.read_long-first_after.ensures c.read_long-second_after.ensures (c.set_cell_at.ensures copies laid) (λ then. c.set_cell_at-2.ensures copies then)
+returns c = λ copies laid. pair-kept c.args.rows.now copies c.args.s c.args.e c.requires.0 c.requires.1.0 laid c.first_of-n.result c.args.at c.first_of-n.ensures.0 c.first_of-n.ensures.1.0 (c.cell_at-first.ensures copies laid) (c.cell_at-second.ensures copies laid) c.put_pair.ensures (size (width_of c.args.code)) c.args.value (c.first_of-n.ensures.1.1 (size (width_of c.args.code)) (four_bytes (width_of c.args.code)) c.requires.1.1) c.write_number.ensures c.read-first_after.ensures c.read-second_after.ensures (c.set_cell_at.ensures copies laid) (λ then. c.set_cell_at-2.ensures copies then)

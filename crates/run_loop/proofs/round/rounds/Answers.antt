@@ -8,7 +8,9 @@ use Rattle.plain.specs.Answer.{refuses, gives}
 use Rattle.machine.specs.Reach.{alone, is_foreign}
 use Rattle.machine.specs.Codes.{code_pause, cycle_table, cycles_of}
 use Rattle.machine.specs.Fetch.{instruction_at}
-use Rattle.run_words.specs.Answers.{says_fetched, says_checked, says_exit, says_done}
+use Rattle.machine.specs.Refusals.{says}
+use Rattle.machine.specs.declared.refusal.Refusal.{Refusal}
+use Rattle.run_words.specs.Answers.{says_fetched, says_exit}
 use Rattle.run_words.specs.Registers.{machine_in, halted_by}
 use Rattle.run_words.specs.Levels.{frames_in, levels_in, note_in, in_rows}
 use Rattle.run_words.specs.Machines.{in_reach}
@@ -28,21 +30,20 @@ use Rattle.run_words.specs.Laws.Rounds.{Round, begins, Found, ends, goes, goes_i
 use borrow.Author.Rules.{rules}
 use Rattle.run_words.specs.Promises.{Fetches}
 use Rattle.run_words.specs.declared.Fetched.{Fetched}
-use Rattle.run_words.specs.declared.Fetched.TheVariants.{Instruction}
 use Rattle.run_words.specs.declared.Registers.{Registers}
 use Rattle.machine.specs.declared.Reach.{Reach}
 use Rattle.machine.specs.declared.Machine.{Machine}
 use Rattle.links.specs.declared.Frame.{Frame}
 use Rattle.links.specs.declared.Level.{Level}
 use Rattle.run_words.specs.Notes.{Aside}
-use Rattle.std.specs.Prelude.{Bool, List}
+use Rattle.std.specs.Prelude.{Result, Ok, Bool, List}
 use Rattle.run_loop.proofs.round.rounds.Goals as goal
 
 -- an instruction is fetched, and none of its bytes is in another's part
 found : {reach : Reach} {in_turns : Bool} {mem₀ : List ℕ} {m₀ : Machine} {budget heeds₀ : ℕ} {mem cells returns : List ℕ} {frames : List Frame} {levels : List Level} {aside : Aside} {g : Registers}
-    {fetched : Fetched} {foreign : Bool} {code operand next : ℕ} → Round reach in_turns mem₀ m₀ budget heeds₀ mem cells returns frames levels aside g → 0 < g.left.0
-    → Fetches mem g.counter (says_fetched fetched) → foreign ≡ is_foreign (instruction_at reach mem g.counter).bar → foreign ≡ false → fetched ≡ Instruction code operand next
-    → Found reach in_turns mem₀ m₀ budget heeds₀ mem cells returns frames levels aside g code operand next
+    {fetched : Result Fetched Refusal} {i : Fetched} {foreign : Bool} → Round reach in_turns mem₀ m₀ budget heeds₀ mem cells returns frames levels aside g → 0 < g.left.0
+    → Fetches mem g.counter (says_fetched fetched) → foreign ≡ is_foreign (instruction_at reach mem g.counter).bar → foreign ≡ false → fetched ≡ Ok i
+    → Found reach in_turns mem₀ m₀ budget heeds₀ mem cells returns frames levels aside g i.code i.operand i.next
 found {reach = reach} round less fetches foreign own is =
     record { round = round; less = less; fetched = told (λ f. says_fetched f reach) (fetches reach (sym foreign ∙ own)) is }
 
@@ -54,298 +55,277 @@ no-pause : {code : ℕ} → 0x7F < code → code ≡ code_pause → ⊥
 no-pause above h = omega arith
 
 pub loop-regs-init : goal.loop-regs-init
-loop-regs-init c = (record { round = begins refl refl refl refl refl c.requires.calm (starts c.args.reach c.args.turns c.args.mem.now _ c.args.left c.requires.accepted c.requires.whole); laid = c.requires.laid; loses = nothing-lost (note_in c.args.rows.now).lost c.args.mem.now; heeds-same = refl; due-same = refl; unasked = c.requires.unasked; unheeded = c.requires.unheeded }, c.requires.priced)
+loop-regs-init c = record { round = begins refl refl refl refl refl c.requires.calm (starts c.args.reach c.args.turns c.args.mem.now _ c.args.left c.requires.accepted c.requires.whole); laid = c.requires.laid; loses = nothing-lost (note_in c.args.rows.now).lost c.args.mem.now; heeds-same = refl; due-same = refl; unasked = c.requires.unasked; unheeded = c.requires.unheeded }
 
 pub foreign-requires : goal.foreign-requires
-foreign-requires c = (c.loop-regs.invariant.0.round.long, c.requires.bounded.shared-within)
+foreign-requires c = (c.loop-regs.invariant.round.long, c.requires.bounded.shared-within)
 
 pub loop-regs-smaller-then-foreign : goal.loop-regs-smaller-then-foreign
 loop-regs-smaller-then-foreign c = halted-less {A = Unit {0}} c.loop-regs.regs {said = refuses 17} c.halted-regs.ensures refl c.loop-regs-test.true
 
 pub loop-regs-preserved-then-foreign : goal.loop-regs-preserved-then-foreign
-loop-regs-preserved-then-foreign c = (stays c.loop-regs.invariant.0 (foreign-ends c.loop-regs.invariant.0.round c.loop-regs-test.true c.foreign.ensures c.if-foreign.true c.halted-regs.ensures), c.loop-regs.invariant.1)
+loop-regs-preserved-then-foreign c = stays c.loop-regs.invariant (foreign-ends c.loop-regs.invariant.round c.loop-regs-test.true c.foreign.ensures c.if-foreign.true c.halted-regs.ensures)
 
 pub loop-regs-smaller-in_default : goal.loop-regs-smaller-in_default
-loop-regs-smaller-in_default c = halted-less c.loop-regs.regs c.by_fetch-regs.ensures (ap (λ f. says_fetched f alone) c.in_default.is) c.loop-regs-test.true
+loop-regs-smaller-in_default c = halted-less c.loop-regs.regs c.by-regs.ensures (ap says c.in_default.is) c.loop-regs-test.true
 
 pub loop-regs-preserved-in_default : goal.loop-regs-preserved-in_default
-loop-regs-preserved-in_default c = (stays c.loop-regs.invariant.0 (fetch-ends c.loop-regs.invariant.0.round c.loop-regs-test.true c.fetch-fetched.ensures c.foreign.ensures c.if-foreign.false (ap (λ f. says_fetched f c.args.reach) c.in_default.is) (c.by_fetch-regs.ensures ∙ ap (λ a. halted_by a c.loop-regs.regs) (ap (λ f. says_fetched f alone) c.in_default.is))), c.loop-regs.invariant.1)
+loop-regs-preserved-in_default c = stays c.loop-regs.invariant (fetch-ends c.loop-regs.invariant.round c.loop-regs-test.true c.fetch-fetched.ensures c.foreign.ensures c.if-foreign.false (ap (λ f. says_fetched f c.args.reach) c.in_default.is) (c.by-regs.ensures ∙ ap (λ a. halted_by a c.loop-regs.regs) (ap says c.in_default.is)))
 
 pub loop-regs-smaller-in_default-done : goal.loop-regs-smaller-in_default-done
-loop-regs-smaller-in_default-done c = halted-less c.loop-regs.regs c.by_done-regs.ensures (ap says_done c.in_default-done.is) (found c.loop-regs.invariant.0.round c.loop-regs-test.true c.fetch-fetched.ensures c.foreign.ensures c.if-foreign.false c.in-Instruction.is).less
+loop-regs-smaller-in_default-done c = halted-less c.loop-regs.regs c.by-regs-in_default-done.ensures (ap says c.in_default-done.is) (found c.loop-regs.invariant.round c.loop-regs-test.true c.fetch-fetched.ensures c.foreign.ensures c.if-foreign.false c.in-Ok.is).less
 
 pub loop-regs-preserved-in_default-done : goal.loop-regs-preserved-in_default-done
-loop-regs-preserved-in_default-done c = (stays c.loop-regs.invariant.0 (cells-end (found c.loop-regs.invariant.0.round c.loop-regs-test.true c.fetch-fetched.ensures c.foreign.ensures c.if-foreign.false c.in-Instruction.is) (branches-on c.if-code-gt127.true) (no-pause c.if-code-gt127.true) c.branches-done.ensures (ap says_done c.in_default-done.is) c.by_done-regs.ensures), c.loop-regs.invariant.1)
-
-pub price-requires : goal.price-requires
-price-requires c = c.loop-regs.invariant.1
+loop-regs-preserved-in_default-done c = stays c.loop-regs.invariant (cells-end (found c.loop-regs.invariant.round c.loop-regs-test.true c.fetch-fetched.ensures c.foreign.ensures c.if-foreign.false c.in-Ok.is) (branches-on c.if-code-gt127.true) (no-pause c.if-code-gt127.true) c.branches-done.ensures (ap says c.in_default-done.is) c.by-regs-in_default-done.ensures)
 
 pub counted-regs-requires : goal.counted-regs-requires
-counted-regs-requires c = ((found c.loop-regs.invariant.0.round c.loop-regs-test.true c.fetch-fetched.ensures c.foreign.ensures c.if-foreign.false c.in-Instruction.is).less, ((omega (arith, c.loop-regs.invariant.0.round.priced, c.loop-regs.invariant.0.round.limit, c.loop-regs.invariant.0.round.left-within, (found c.loop-regs.invariant.0.round c.loop-regs-test.true c.fetch-fetched.ensures c.foreign.ensures c.if-foreign.false c.in-Instruction.is).less)), c.price.ensures.1))
+counted-regs-requires c = ((found c.loop-regs.invariant.round c.loop-regs-test.true c.fetch-fetched.ensures c.foreign.ensures c.if-foreign.false c.in-Ok.is).less, ((omega (arith, c.loop-regs.invariant.round.priced, c.loop-regs.invariant.round.limit, c.loop-regs.invariant.round.left-within, (found c.loop-regs.invariant.round c.loop-regs-test.true c.fetch-fetched.ensures c.foreign.ensures c.if-foreign.false c.in-Ok.is).less)), c.price.ensures.1))
 
 pub loop-regs-smaller-then-code-gt127 : goal.loop-regs-smaller-then-code-gt127
 loop-regs-smaller-then-code-gt127 c = omega (arith, c.counted-regs.ensures.1)
 
 pub loop-regs-preserved-then-code-gt127 : goal.loop-regs-preserved-then-code-gt127
-loop-regs-preserved-then-code-gt127 c = (stays c.loop-regs.invariant.0 (goes (found c.loop-regs.invariant.0.round c.loop-regs-test.true c.fetch-fetched.ensures c.foreign.ensures c.if-foreign.false c.in-Instruction.is) (cells-acts (found c.loop-regs.invariant.0.round c.loop-regs-test.true c.fetch-fetched.ensures c.foreign.ensures c.if-foreign.false c.in-Instruction.is) (branches-on c.if-code-gt127.true) (no-pause c.if-code-gt127.true) c.branches-done.ensures) (ap says_done c.in-Went.is) refl refl (record { lines_same = refl; r-rises = omega arith; s-rises = omega arith }) c.price.ensures.0 c.counted-regs.ensures.0), c.loop-regs.invariant.1)
+loop-regs-preserved-then-code-gt127 c = stays c.loop-regs.invariant (goes (found c.loop-regs.invariant.round c.loop-regs-test.true c.fetch-fetched.ensures c.foreign.ensures c.if-foreign.false c.in-Ok.is) (cells-acts (found c.loop-regs.invariant.round c.loop-regs-test.true c.fetch-fetched.ensures c.foreign.ensures c.if-foreign.false c.in-Ok.is) (branches-on c.if-code-gt127.true) (no-pause c.if-code-gt127.true) c.branches-done.ensures) (ap says c.in-Ok-done.is) refl refl (record { lines_same = refl; r-rises = omega arith; s-rises = omega arith }) c.price.ensures.0 c.counted-regs.ensures.0)
 
 pub loop-regs-smaller-in_default-checked : goal.loop-regs-smaller-in_default-checked
-loop-regs-smaller-in_default-checked c = halted-less c.loop-regs.regs c.by_check-regs.ensures (ap says_checked c.in_default-checked.is) (found c.loop-regs.invariant.0.round c.loop-regs-test.true c.fetch-fetched.ensures c.foreign.ensures c.if-foreign.false c.in-Instruction.is).less
+loop-regs-smaller-in_default-checked c = halted-less c.loop-regs.regs c.by-regs-in_default-checked.ensures (ap says c.in_default-checked.is) (found c.loop-regs.invariant.round c.loop-regs-test.true c.fetch-fetched.ensures c.foreign.ensures c.if-foreign.false c.in-Ok.is).less
 
 pub loop-regs-preserved-in_default-checked : goal.loop-regs-preserved-in_default-checked
-loop-regs-preserved-in_default-checked c = (stays c.loop-regs.invariant.0 (ends (found c.loop-regs.invariant.0.round c.loop-regs-test.true c.fetch-fetched.ensures c.foreign.ensures c.if-foreign.false c.in-Instruction.is) (push-acts (found c.loop-regs.invariant.0.round c.loop-regs-test.true c.fetch-fetched.ensures c.foreign.ensures c.if-foreign.false c.in-Instruction.is) c.in-7.is) (told says_checked c.can_push-checked.ensures c.in_default-checked.is) c.can_push-checked.ensures c.by_check-regs.ensures), c.loop-regs.invariant.1)
+loop-regs-preserved-in_default-checked c = stays c.loop-regs.invariant (ends (found c.loop-regs.invariant.round c.loop-regs-test.true c.fetch-fetched.ensures c.foreign.ensures c.if-foreign.false c.in-Ok.is) (push-acts (found c.loop-regs.invariant.round c.loop-regs-test.true c.fetch-fetched.ensures c.foreign.ensures c.if-foreign.false c.in-Ok.is) c.in-7.is) (told says c.can_push-checked.ensures c.in_default-checked.is) c.can_push-checked.ensures c.by-regs-in_default-checked.ensures)
 
 pub overflow_sub-returns : goal.overflow_sub-returns
-overflow_sub-returns c = omega (arith, push-room (told says_checked c.can_push-checked.ensures c.in-Fine.is))
+overflow_sub-returns c = omega (arith, push-room (told says c.can_push-checked.ensures c.in-Ok-checked.is))
 
 pub offset_bounds-cells-p : goal.offset_bounds-cells-p
-offset_bounds-cells-p c = omega (arith, push-room (told says_checked c.can_push-checked.ensures c.in-Fine.is))
+offset_bounds-cells-p c = omega (arith, push-room (told says c.can_push-checked.ensures c.in-Ok-checked.is))
 
 pub bounds-cells-p : goal.bounds-cells-p
-bounds-cells-p c = omega (arith, push-room (told says_checked c.can_push-checked.ensures c.in-Fine.is))
+bounds-cells-p c = omega (arith, push-room (told says c.can_push-checked.ensures c.in-Ok-checked.is))
 
 pub offset_bounds-returns-r : goal.offset_bounds-returns-r
-offset_bounds-returns-r c = omega (arith, push-room (told says_checked c.can_push-checked.ensures c.in-Fine.is))
+offset_bounds-returns-r c = omega (arith, push-room (told says c.can_push-checked.ensures c.in-Ok-checked.is))
 
 pub bounds-returns-r : goal.bounds-returns-r
-bounds-returns-r c = omega (arith, push-room (told says_checked c.can_push-checked.ensures c.in-Fine.is))
+bounds-returns-r c = omega (arith, push-room (told says c.can_push-checked.ensures c.in-Ok-checked.is))
 
 pub overflow_sub-regs : goal.overflow_sub-regs
-overflow_sub-regs c = omega (arith, push-room (told says_checked c.can_push-checked.ensures c.in-Fine.is))
+overflow_sub-regs c = omega (arith, push-room (told says c.can_push-checked.ensures c.in-Ok-checked.is))
 
 pub overflow_add-regs : goal.overflow_add-regs
-overflow_add-regs c = omega (arith, push-room (told says_checked c.can_push-checked.ensures c.in-Fine.is))
-
-pub price-requires-in-7 : goal.price-requires-in-7
-price-requires-in-7 c = c.loop-regs.invariant.1
+overflow_add-regs c = omega (arith, push-room (told says c.can_push-checked.ensures c.in-Ok-checked.is))
 
 pub counted-regs-requires-in-7 : goal.counted-regs-requires-in-7
-counted-regs-requires-in-7 c = ((found c.loop-regs.invariant.0.round c.loop-regs-test.true c.fetch-fetched.ensures c.foreign.ensures c.if-foreign.false c.in-Instruction.is).less, ((omega (arith, c.loop-regs.invariant.0.round.priced, c.loop-regs.invariant.0.round.limit, c.loop-regs.invariant.0.round.left-within, (found c.loop-regs.invariant.0.round c.loop-regs-test.true c.fetch-fetched.ensures c.foreign.ensures c.if-foreign.false c.in-Instruction.is).less)), c.price-in-7.ensures.1))
+counted-regs-requires-in-7 c = ((found c.loop-regs.invariant.round c.loop-regs-test.true c.fetch-fetched.ensures c.foreign.ensures c.if-foreign.false c.in-Ok.is).less, ((omega (arith, c.loop-regs.invariant.round.priced, c.loop-regs.invariant.round.limit, c.loop-regs.invariant.round.left-within, (found c.loop-regs.invariant.round c.loop-regs-test.true c.fetch-fetched.ensures c.foreign.ensures c.if-foreign.false c.in-Ok.is).less)), c.price-in-7.ensures.1))
 
 pub loop-regs-smaller-in-7 : goal.loop-regs-smaller-in-7
 loop-regs-smaller-in-7 c = omega (arith, c.counted-regs-in-7.ensures.1)
 
 pub loop-regs-preserved-in-7 : goal.loop-regs-preserved-in-7
-loop-regs-preserved-in-7 c = (stays c.loop-regs.invariant.0 (goes (found c.loop-regs.invariant.0.round c.loop-regs-test.true c.fetch-fetched.ensures c.foreign.ensures c.if-foreign.false c.in-Instruction.is) (push-acts (found c.loop-regs.invariant.0.round c.loop-regs-test.true c.fetch-fetched.ensures c.foreign.ensures c.if-foreign.false c.in-Instruction.is) c.in-7.is) (told says_checked c.can_push-checked.ensures c.in-Fine.is) refl refl (record { lines_same = refl; r-rises = omega arith; s-rises = omega arith }) c.price-in-7.ensures.0 c.counted-regs-in-7.ensures.0), c.loop-regs.invariant.1)
+loop-regs-preserved-in-7 c = stays c.loop-regs.invariant (goes (found c.loop-regs.invariant.round c.loop-regs-test.true c.fetch-fetched.ensures c.foreign.ensures c.if-foreign.false c.in-Ok.is) (push-acts (found c.loop-regs.invariant.round c.loop-regs-test.true c.fetch-fetched.ensures c.foreign.ensures c.if-foreign.false c.in-Ok.is) c.in-7.is) (told says c.can_push-checked.ensures c.in-Ok-checked.is) refl refl (record { lines_same = refl; r-rises = omega arith; s-rises = omega arith }) c.price-in-7.ensures.0 c.counted-regs-in-7.ensures.0)
 
 pub loop-regs-smaller-in_default-checked-2 : goal.loop-regs-smaller-in_default-checked-2
-loop-regs-smaller-in_default-checked-2 c = halted-less c.loop-regs.regs c.by_check-regs-in_default-checked-2.ensures (ap says_checked c.in_default-checked-2.is) (found c.loop-regs.invariant.0.round c.loop-regs-test.true c.fetch-fetched.ensures c.foreign.ensures c.if-foreign.false c.in-Instruction.is).less
+loop-regs-smaller-in_default-checked-2 c = halted-less c.loop-regs.regs c.by-regs-in_default-checked-2.ensures (ap says c.in_default-checked-2.is) (found c.loop-regs.invariant.round c.loop-regs-test.true c.fetch-fetched.ensures c.foreign.ensures c.if-foreign.false c.in-Ok.is).less
 
 pub loop-regs-preserved-in_default-checked-2 : goal.loop-regs-preserved-in_default-checked-2
-loop-regs-preserved-in_default-checked-2 c = (stays c.loop-regs.invariant.0 (ends (found c.loop-regs.invariant.0.round c.loop-regs-test.true c.fetch-fetched.ensures c.foreign.ensures c.if-foreign.false c.in-Instruction.is) (copy-acts (found c.loop-regs.invariant.0.round c.loop-regs-test.true c.fetch-fetched.ensures c.foreign.ensures c.if-foreign.false c.in-Instruction.is) c.in-8.is) (told says_checked c.can_read-checked.ensures c.in_default-checked-2.is) c.can_read-checked.ensures c.by_check-regs-in_default-checked-2.ensures), c.loop-regs.invariant.1)
+loop-regs-preserved-in_default-checked-2 c = stays c.loop-regs.invariant (ends (found c.loop-regs.invariant.round c.loop-regs-test.true c.fetch-fetched.ensures c.foreign.ensures c.if-foreign.false c.in-Ok.is) (copy-acts (found c.loop-regs.invariant.round c.loop-regs-test.true c.fetch-fetched.ensures c.foreign.ensures c.if-foreign.false c.in-Ok.is) c.in-8.is) (told says c.can_read-checked.ensures c.in_default-checked-2.is) c.can_read-checked.ensures c.by-regs-in_default-checked-2.ensures)
 
 pub overflow_sub-cells : goal.overflow_sub-cells
-overflow_sub-cells c = omega (arith, read-room (told says_checked c.can_read-checked.ensures c.in-Fine-checked.is))
+overflow_sub-cells c = omega (arith, read-room (told says c.can_read-checked.ensures c.in-Ok-checked-2.is))
 
 pub offset_bounds-returns-r-in-8 : goal.offset_bounds-returns-r-in-8
-offset_bounds-returns-r-in-8 c = omega (arith, read-room (told says_checked c.can_read-checked.ensures c.in-Fine-checked.is))
+offset_bounds-returns-r-in-8 c = omega (arith, read-room (told says c.can_read-checked.ensures c.in-Ok-checked-2.is))
 
 pub bounds-returns-r-in-8 : goal.bounds-returns-r-in-8
-bounds-returns-r-in-8 c = omega (arith, read-room (told says_checked c.can_read-checked.ensures c.in-Fine-checked.is))
+bounds-returns-r-in-8 c = omega (arith, read-room (told says c.can_read-checked.ensures c.in-Ok-checked-2.is))
 
 pub offset_bounds-cells-p-in-8 : goal.offset_bounds-cells-p-in-8
-offset_bounds-cells-p-in-8 c = omega (arith, read-room (told says_checked c.can_read-checked.ensures c.in-Fine-checked.is))
+offset_bounds-cells-p-in-8 c = omega (arith, read-room (told says c.can_read-checked.ensures c.in-Ok-checked-2.is))
 
 pub bounds-cells-p-in-8 : goal.bounds-cells-p-in-8
-bounds-cells-p-in-8 c = omega (arith, read-room (told says_checked c.can_read-checked.ensures c.in-Fine-checked.is))
+bounds-cells-p-in-8 c = omega (arith, read-room (told says c.can_read-checked.ensures c.in-Ok-checked-2.is))
 
 pub overflow_add-regs-in-8 : goal.overflow_add-regs-in-8
-overflow_add-regs-in-8 c = omega (arith, read-room (told says_checked c.can_read-checked.ensures c.in-Fine-checked.is))
-
-pub price-requires-in-8 : goal.price-requires-in-8
-price-requires-in-8 c = c.loop-regs.invariant.1
+overflow_add-regs-in-8 c = omega (arith, read-room (told says c.can_read-checked.ensures c.in-Ok-checked-2.is))
 
 pub counted-regs-requires-in-8 : goal.counted-regs-requires-in-8
-counted-regs-requires-in-8 c = ((found c.loop-regs.invariant.0.round c.loop-regs-test.true c.fetch-fetched.ensures c.foreign.ensures c.if-foreign.false c.in-Instruction.is).less, ((omega (arith, c.loop-regs.invariant.0.round.priced, c.loop-regs.invariant.0.round.limit, c.loop-regs.invariant.0.round.left-within, (found c.loop-regs.invariant.0.round c.loop-regs-test.true c.fetch-fetched.ensures c.foreign.ensures c.if-foreign.false c.in-Instruction.is).less)), c.price-in-8.ensures.1))
+counted-regs-requires-in-8 c = ((found c.loop-regs.invariant.round c.loop-regs-test.true c.fetch-fetched.ensures c.foreign.ensures c.if-foreign.false c.in-Ok.is).less, ((omega (arith, c.loop-regs.invariant.round.priced, c.loop-regs.invariant.round.limit, c.loop-regs.invariant.round.left-within, (found c.loop-regs.invariant.round c.loop-regs-test.true c.fetch-fetched.ensures c.foreign.ensures c.if-foreign.false c.in-Ok.is).less)), c.price-in-8.ensures.1))
 
 pub loop-regs-smaller-in-8 : goal.loop-regs-smaller-in-8
 loop-regs-smaller-in-8 c = omega (arith, c.counted-regs-in-8.ensures.1)
 
 pub loop-regs-preserved-in-8 : goal.loop-regs-preserved-in-8
-loop-regs-preserved-in-8 c = (stays c.loop-regs.invariant.0 (goes (found c.loop-regs.invariant.0.round c.loop-regs-test.true c.fetch-fetched.ensures c.foreign.ensures c.if-foreign.false c.in-Instruction.is) (copy-acts (found c.loop-regs.invariant.0.round c.loop-regs-test.true c.fetch-fetched.ensures c.foreign.ensures c.if-foreign.false c.in-Instruction.is) c.in-8.is) (told says_checked c.can_read-checked.ensures c.in-Fine-checked.is) refl refl (record { lines_same = refl; r-rises = omega arith; s-rises = omega arith }) c.price-in-8.ensures.0 c.counted-regs-in-8.ensures.0), c.loop-regs.invariant.1)
+loop-regs-preserved-in-8 c = stays c.loop-regs.invariant (goes (found c.loop-regs.invariant.round c.loop-regs-test.true c.fetch-fetched.ensures c.foreign.ensures c.if-foreign.false c.in-Ok.is) (copy-acts (found c.loop-regs.invariant.round c.loop-regs-test.true c.fetch-fetched.ensures c.foreign.ensures c.if-foreign.false c.in-Ok.is) c.in-8.is) (told says c.can_read-checked.ensures c.in-Ok-checked-2.is) refl refl (record { lines_same = refl; r-rises = omega arith; s-rises = omega arith }) c.price-in-8.ensures.0 c.counted-regs-in-8.ensures.0)
 
 pub pop-regs-requires : goal.pop-regs-requires
-pop-regs-requires c = (record { p-within = c.loop-regs.invariant.0.round.p-within; r-within = c.loop-regs.invariant.0.round.r-within; s-within = c.loop-regs.invariant.0.round.s-within; e-within = c.loop-regs.invariant.0.round.e-within; less = (found c.loop-regs.invariant.0.round c.loop-regs-test.true c.fetch-fetched.ensures c.foreign.ensures c.if-foreign.false c.in-Instruction.is).less; paid = (omega (arith, c.loop-regs.invariant.0.round.priced, c.loop-regs.invariant.0.round.limit, c.loop-regs.invariant.0.round.left-within, (found c.loop-regs.invariant.0.round c.loop-regs-test.true c.fetch-fetched.ensures c.foreign.ensures c.if-foreign.false c.in-Instruction.is).less)) }, c.loop-regs.invariant.1)
+pop-regs-requires c = record { p-within = c.loop-regs.invariant.round.p-within; r-within = c.loop-regs.invariant.round.r-within; s-within = c.loop-regs.invariant.round.s-within; e-within = c.loop-regs.invariant.round.e-within; less = (found c.loop-regs.invariant.round c.loop-regs-test.true c.fetch-fetched.ensures c.foreign.ensures c.if-foreign.false c.in-Ok.is).less; paid = (omega (arith, c.loop-regs.invariant.round.priced, c.loop-regs.invariant.round.limit, c.loop-regs.invariant.round.left-within, (found c.loop-regs.invariant.round c.loop-regs-test.true c.fetch-fetched.ensures c.foreign.ensures c.if-foreign.false c.in-Ok.is).less)) }
 
 pub loop-regs-smaller-in-9 : goal.loop-regs-smaller-in-9
 loop-regs-smaller-in-9 c = c.pop-regs.ensures.0
 
 pub loop-regs-preserved-in-9 : goal.loop-regs-preserved-in-9
-loop-regs-preserved-in-9 c = (c.pop-regs.ensures.1 c.args.reach _ c.loop-regs.mem c.in-Instruction.operand c.loop-regs.invariant.0 ((found c.loop-regs.invariant.0.round c.loop-regs-test.true c.fetch-fetched.ensures c.foreign.ensures c.if-foreign.false c.in-Instruction.is).fetched ∙ ap (λ n. gives (in_reach c.args.reach n c.in-Instruction.operand c.in-Instruction.next)) c.in-9.is), c.loop-regs.invariant.1)
+loop-regs-preserved-in-9 c = c.pop-regs.ensures.1 c.args.reach _ c.loop-regs.mem c.in-Ok.instruction.operand c.loop-regs.invariant ((found c.loop-regs.invariant.round c.loop-regs-test.true c.fetch-fetched.ensures c.foreign.ensures c.if-foreign.false c.in-Ok.is).fetched ∙ ap (λ n. gives (in_reach c.args.reach n c.in-Ok.instruction.operand c.in-Ok.instruction.next)) c.in-9.is)
 
 pub catch-regs-requires : goal.catch-regs-requires
-catch-regs-requires c = (record { p-within = c.loop-regs.invariant.0.round.p-within; r-within = c.loop-regs.invariant.0.round.r-within; s-within = c.loop-regs.invariant.0.round.s-within; e-within = c.loop-regs.invariant.0.round.e-within; less = (found c.loop-regs.invariant.0.round c.loop-regs-test.true c.fetch-fetched.ensures c.foreign.ensures c.if-foreign.false c.in-Instruction.is).less; paid = (omega (arith, c.loop-regs.invariant.0.round.priced, c.loop-regs.invariant.0.round.limit, c.loop-regs.invariant.0.round.left-within, (found c.loop-regs.invariant.0.round c.loop-regs-test.true c.fetch-fetched.ensures c.foreign.ensures c.if-foreign.false c.in-Instruction.is).less)) }, c.loop-regs.invariant.1)
+catch-regs-requires c = record { p-within = c.loop-regs.invariant.round.p-within; r-within = c.loop-regs.invariant.round.r-within; s-within = c.loop-regs.invariant.round.s-within; e-within = c.loop-regs.invariant.round.e-within; less = (found c.loop-regs.invariant.round c.loop-regs-test.true c.fetch-fetched.ensures c.foreign.ensures c.if-foreign.false c.in-Ok.is).less; paid = (omega (arith, c.loop-regs.invariant.round.priced, c.loop-regs.invariant.round.limit, c.loop-regs.invariant.round.left-within, (found c.loop-regs.invariant.round c.loop-regs-test.true c.fetch-fetched.ensures c.foreign.ensures c.if-foreign.false c.in-Ok.is).less)) }
 
 pub loop-regs-smaller-in-11 : goal.loop-regs-smaller-in-11
 loop-regs-smaller-in-11 c = c.catch-regs.ensures.0
 
 pub loop-regs-preserved-in-11 : goal.loop-regs-preserved-in-11
-loop-regs-preserved-in-11 c = (c.catch-regs.ensures.1 c.args.reach _ _ c.loop-regs.mem c.in-Instruction.operand c.loop-regs.invariant.0 ((found c.loop-regs.invariant.0.round c.loop-regs-test.true c.fetch-fetched.ensures c.foreign.ensures c.if-foreign.false c.in-Instruction.is).fetched ∙ ap (λ n. gives (in_reach c.args.reach n c.in-Instruction.operand c.in-Instruction.next)) c.in-11.is), c.loop-regs.invariant.1)
-
-pub price-requires-in-12 : goal.price-requires-in-12
-price-requires-in-12 c = c.loop-regs.invariant.1
+loop-regs-preserved-in-11 c = c.catch-regs.ensures.1 c.args.reach _ _ c.loop-regs.mem c.in-Ok.instruction.operand c.loop-regs.invariant ((found c.loop-regs.invariant.round c.loop-regs-test.true c.fetch-fetched.ensures c.foreign.ensures c.if-foreign.false c.in-Ok.is).fetched ∙ ap (λ n. gives (in_reach c.args.reach n c.in-Ok.instruction.operand c.in-Ok.instruction.next)) c.in-11.is)
 
 pub counted-regs-requires-in-12 : goal.counted-regs-requires-in-12
-counted-regs-requires-in-12 c = ((found c.loop-regs.invariant.0.round c.loop-regs-test.true c.fetch-fetched.ensures c.foreign.ensures c.if-foreign.false c.in-Instruction.is).less, ((omega (arith, c.loop-regs.invariant.0.round.priced, c.loop-regs.invariant.0.round.limit, c.loop-regs.invariant.0.round.left-within, (found c.loop-regs.invariant.0.round c.loop-regs-test.true c.fetch-fetched.ensures c.foreign.ensures c.if-foreign.false c.in-Instruction.is).less)), c.price-in-12.ensures.1))
+counted-regs-requires-in-12 c = ((found c.loop-regs.invariant.round c.loop-regs-test.true c.fetch-fetched.ensures c.foreign.ensures c.if-foreign.false c.in-Ok.is).less, ((omega (arith, c.loop-regs.invariant.round.priced, c.loop-regs.invariant.round.limit, c.loop-regs.invariant.round.left-within, (found c.loop-regs.invariant.round c.loop-regs-test.true c.fetch-fetched.ensures c.foreign.ensures c.if-foreign.false c.in-Ok.is).less)), c.price-in-12.ensures.1))
 
 pub loop-regs-smaller-in-12 : goal.loop-regs-smaller-in-12
 loop-regs-smaller-in-12 c = omega (arith, c.counted-regs-in-12.ensures.1, c.parted-regs.ensures.1)
 
 pub loop-regs-preserved-in-12 : goal.loop-regs-preserved-in-12
-loop-regs-preserved-in-12 c = (stays c.loop-regs.invariant.0 (goes_in (found c.loop-regs.invariant.0.round c.loop-regs-test.true c.fetch-fetched.ensures c.foreign.ensures c.if-foreign.false c.in-Instruction.is) (reset-acts (found c.loop-regs.invariant.0.round c.loop-regs-test.true c.fetch-fetched.ensures c.foreign.ensures c.if-foreign.false c.in-Instruction.is) c.in-12.is) refl refl refl c.price-in-12.ensures.0 c.counted-regs-in-12.ensures.0 c.loop-regs.invariant.0.heeds-same c.loop-regs.invariant.0.unasked c.held.ensures c.parted-regs.ensures.0 (unheeded-here c.loop-regs.invariant.0 c.loop-regs.rows refl refl)), c.loop-regs.invariant.1)
+loop-regs-preserved-in-12 c = stays c.loop-regs.invariant (goes_in (found c.loop-regs.invariant.round c.loop-regs-test.true c.fetch-fetched.ensures c.foreign.ensures c.if-foreign.false c.in-Ok.is) (reset-acts (found c.loop-regs.invariant.round c.loop-regs-test.true c.fetch-fetched.ensures c.foreign.ensures c.if-foreign.false c.in-Ok.is) c.in-12.is) refl refl refl c.price-in-12.ensures.0 c.counted-regs-in-12.ensures.0 c.loop-regs.invariant.heeds-same c.loop-regs.invariant.unasked c.held.ensures c.parted-regs.ensures.0 (unheeded-here c.loop-regs.invariant c.loop-regs.rows refl refl))
 
 pub throw-regs-requires : goal.throw-regs-requires
-throw-regs-requires c = ((record { p-within = c.loop-regs.invariant.0.round.p-within; r-within = c.loop-regs.invariant.0.round.r-within; s-within = c.loop-regs.invariant.0.round.s-within; e-within = c.loop-regs.invariant.0.round.e-within; less = (found c.loop-regs.invariant.0.round c.loop-regs-test.true c.fetch-fetched.ensures c.foreign.ensures c.if-foreign.false c.in-Instruction.is).less; paid = (omega (arith, c.loop-regs.invariant.0.round.priced, c.loop-regs.invariant.0.round.limit, c.loop-regs.invariant.0.round.left-within, (found c.loop-regs.invariant.0.round c.loop-regs-test.true c.fetch-fetched.ensures c.foreign.ensures c.if-foreign.false c.in-Instruction.is).less)) }, c.loop-regs.invariant.1), c.loop-regs.invariant.0.round.catcher)
+throw-regs-requires c = (record { p-within = c.loop-regs.invariant.round.p-within; r-within = c.loop-regs.invariant.round.r-within; s-within = c.loop-regs.invariant.round.s-within; e-within = c.loop-regs.invariant.round.e-within; less = (found c.loop-regs.invariant.round c.loop-regs-test.true c.fetch-fetched.ensures c.foreign.ensures c.if-foreign.false c.in-Ok.is).less; paid = (omega (arith, c.loop-regs.invariant.round.priced, c.loop-regs.invariant.round.limit, c.loop-regs.invariant.round.left-within, (found c.loop-regs.invariant.round c.loop-regs-test.true c.fetch-fetched.ensures c.foreign.ensures c.if-foreign.false c.in-Ok.is).less)) }, c.loop-regs.invariant.round.catcher)
 
 pub loop-regs-smaller-in-13 : goal.loop-regs-smaller-in-13
 loop-regs-smaller-in-13 c = c.throw-regs.ensures.0
 
 pub loop-regs-preserved-in-13 : goal.loop-regs-preserved-in-13
-loop-regs-preserved-in-13 c = (c.throw-regs.ensures.1 c.args.reach _ c.loop-regs.mem c.loop-regs.returns c.in-Instruction.operand c.loop-regs.invariant.0 ((found c.loop-regs.invariant.0.round c.loop-regs-test.true c.fetch-fetched.ensures c.foreign.ensures c.if-foreign.false c.in-Instruction.is).fetched ∙ ap (λ n. gives (in_reach c.args.reach n c.in-Instruction.operand c.in-Instruction.next)) c.in-13.is), c.loop-regs.invariant.1)
+loop-regs-preserved-in-13 c = c.throw-regs.ensures.1 c.args.reach _ c.loop-regs.mem c.loop-regs.returns c.in-Ok.instruction.operand c.loop-regs.invariant ((found c.loop-regs.invariant.round c.loop-regs-test.true c.fetch-fetched.ensures c.foreign.ensures c.if-foreign.false c.in-Ok.is).fetched ∙ ap (λ n. gives (in_reach c.args.reach n c.in-Ok.instruction.operand c.in-Ok.instruction.next)) c.in-13.is)
 
 pub load-regs-requires : goal.load-regs-requires
-load-regs-requires c = ((record { p-within = c.loop-regs.invariant.0.round.p-within; r-within = c.loop-regs.invariant.0.round.r-within; s-within = c.loop-regs.invariant.0.round.s-within; e-within = c.loop-regs.invariant.0.round.e-within; less = (found c.loop-regs.invariant.0.round c.loop-regs-test.true c.fetch-fetched.ensures c.foreign.ensures c.if-foreign.false c.in-Instruction.is).less; paid = (omega (arith, c.loop-regs.invariant.0.round.priced, c.loop-regs.invariant.0.round.limit, c.loop-regs.invariant.0.round.left-within, (found c.loop-regs.invariant.0.round c.loop-regs-test.true c.fetch-fetched.ensures c.foreign.ensures c.if-foreign.false c.in-Instruction.is).less)) }, c.loop-regs.invariant.1), (c.in-45.is, (c.loop-regs.invariant.0.round.long, c.requires.bounded)))
+load-regs-requires c = (record { p-within = c.loop-regs.invariant.round.p-within; r-within = c.loop-regs.invariant.round.r-within; s-within = c.loop-regs.invariant.round.s-within; e-within = c.loop-regs.invariant.round.e-within; less = (found c.loop-regs.invariant.round c.loop-regs-test.true c.fetch-fetched.ensures c.foreign.ensures c.if-foreign.false c.in-Ok.is).less; paid = (omega (arith, c.loop-regs.invariant.round.priced, c.loop-regs.invariant.round.limit, c.loop-regs.invariant.round.left-within, (found c.loop-regs.invariant.round c.loop-regs-test.true c.fetch-fetched.ensures c.foreign.ensures c.if-foreign.false c.in-Ok.is).less)) }, (c.in-45.is, (c.loop-regs.invariant.round.long, c.requires.bounded)))
 
 pub loop-regs-smaller-in-45 : goal.loop-regs-smaller-in-45
 loop-regs-smaller-in-45 c = c.load-regs.ensures.0
 
 pub loop-regs-preserved-in-45 : goal.loop-regs-preserved-in-45
-loop-regs-preserved-in-45 c = (c.load-regs.ensures.1 _ _ c.loop-regs.returns c.loop-regs.copies c.in-Instruction.operand c.loop-regs.invariant.0 (found c.loop-regs.invariant.0.round c.loop-regs-test.true c.fetch-fetched.ensures c.foreign.ensures c.if-foreign.false c.in-Instruction.is).fetched, c.loop-regs.invariant.1)
+loop-regs-preserved-in-45 c = c.load-regs.ensures.1 _ _ c.loop-regs.returns c.loop-regs.copies c.in-Ok.instruction.operand c.loop-regs.invariant (found c.loop-regs.invariant.round c.loop-regs-test.true c.fetch-fetched.ensures c.foreign.ensures c.if-foreign.false c.in-Ok.is).fetched
 
 pub store_long-regs-requires : goal.store_long-regs-requires
-store_long-regs-requires c = ((record { p-within = c.loop-regs.invariant.0.round.p-within; r-within = c.loop-regs.invariant.0.round.r-within; s-within = c.loop-regs.invariant.0.round.s-within; e-within = c.loop-regs.invariant.0.round.e-within; less = (found c.loop-regs.invariant.0.round c.loop-regs-test.true c.fetch-fetched.ensures c.foreign.ensures c.if-foreign.false c.in-Instruction.is).less; paid = (omega (arith, c.loop-regs.invariant.0.round.priced, c.loop-regs.invariant.0.round.limit, c.loop-regs.invariant.0.round.left-within, (found c.loop-regs.invariant.0.round c.loop-regs-test.true c.fetch-fetched.ensures c.foreign.ensures c.if-foreign.false c.in-Instruction.is).less)) }, c.loop-regs.invariant.1), (inl c.in-46.is, (c.loop-regs.invariant.0.round.long, c.requires.bounded)))
+store_long-regs-requires c = (record { p-within = c.loop-regs.invariant.round.p-within; r-within = c.loop-regs.invariant.round.r-within; s-within = c.loop-regs.invariant.round.s-within; e-within = c.loop-regs.invariant.round.e-within; less = (found c.loop-regs.invariant.round c.loop-regs-test.true c.fetch-fetched.ensures c.foreign.ensures c.if-foreign.false c.in-Ok.is).less; paid = (omega (arith, c.loop-regs.invariant.round.priced, c.loop-regs.invariant.round.limit, c.loop-regs.invariant.round.left-within, (found c.loop-regs.invariant.round c.loop-regs-test.true c.fetch-fetched.ensures c.foreign.ensures c.if-foreign.false c.in-Ok.is).less)) }, (inl c.in-46.is, (c.loop-regs.invariant.round.long, c.requires.bounded)))
 
 pub loop-regs-smaller-in-46 : goal.loop-regs-smaller-in-46
 loop-regs-smaller-in-46 c = c.store_long-regs.ensures.0
 
 pub loop-regs-preserved-in-46 : goal.loop-regs-preserved-in-46
-loop-regs-preserved-in-46 c = (c.store_long-regs.ensures.1 _ _ c.loop-regs.returns c.loop-regs.copies c.in-Instruction.operand c.loop-regs.invariant.0 (found c.loop-regs.invariant.0.round c.loop-regs-test.true c.fetch-fetched.ensures c.foreign.ensures c.if-foreign.false c.in-Instruction.is).fetched, c.loop-regs.invariant.1)
+loop-regs-preserved-in-46 c = c.store_long-regs.ensures.1 _ _ c.loop-regs.returns c.loop-regs.copies c.in-Ok.instruction.operand c.loop-regs.invariant (found c.loop-regs.invariant.round c.loop-regs-test.true c.fetch-fetched.ensures c.foreign.ensures c.if-foreign.false c.in-Ok.is).fetched
 
 pub store_short-regs-requires : goal.store_short-regs-requires
-store_short-regs-requires c = ((record { p-within = c.loop-regs.invariant.0.round.p-within; r-within = c.loop-regs.invariant.0.round.r-within; s-within = c.loop-regs.invariant.0.round.s-within; e-within = c.loop-regs.invariant.0.round.e-within; less = (found c.loop-regs.invariant.0.round c.loop-regs-test.true c.fetch-fetched.ensures c.foreign.ensures c.if-foreign.false c.in-Instruction.is).less; paid = (omega (arith, c.loop-regs.invariant.0.round.priced, c.loop-regs.invariant.0.round.limit, c.loop-regs.invariant.0.round.left-within, (found c.loop-regs.invariant.0.round c.loop-regs-test.true c.fetch-fetched.ensures c.foreign.ensures c.if-foreign.false c.in-Instruction.is).less)) }, c.loop-regs.invariant.1), (inr c.in-48.is, (c.loop-regs.invariant.0.round.long, c.requires.bounded)))
+store_short-regs-requires c = (record { p-within = c.loop-regs.invariant.round.p-within; r-within = c.loop-regs.invariant.round.r-within; s-within = c.loop-regs.invariant.round.s-within; e-within = c.loop-regs.invariant.round.e-within; less = (found c.loop-regs.invariant.round c.loop-regs-test.true c.fetch-fetched.ensures c.foreign.ensures c.if-foreign.false c.in-Ok.is).less; paid = (omega (arith, c.loop-regs.invariant.round.priced, c.loop-regs.invariant.round.limit, c.loop-regs.invariant.round.left-within, (found c.loop-regs.invariant.round c.loop-regs-test.true c.fetch-fetched.ensures c.foreign.ensures c.if-foreign.false c.in-Ok.is).less)) }, (inr c.in-48.is, (c.loop-regs.invariant.round.long, c.requires.bounded)))
 
 pub loop-regs-smaller-in-48 : goal.loop-regs-smaller-in-48
 loop-regs-smaller-in-48 c = c.store_short-regs.ensures.0
 
 pub loop-regs-preserved-in-48 : goal.loop-regs-preserved-in-48
-loop-regs-preserved-in-48 c = (c.store_short-regs.ensures.1 _ _ c.loop-regs.returns c.loop-regs.copies c.in-Instruction.operand c.loop-regs.invariant.0 (found c.loop-regs.invariant.0.round c.loop-regs-test.true c.fetch-fetched.ensures c.foreign.ensures c.if-foreign.false c.in-Instruction.is).fetched, c.loop-regs.invariant.1)
+loop-regs-preserved-in-48 c = c.store_short-regs.ensures.1 _ _ c.loop-regs.returns c.loop-regs.copies c.in-Ok.instruction.operand c.loop-regs.invariant (found c.loop-regs.invariant.round c.loop-regs-test.true c.fetch-fetched.ensures c.foreign.ensures c.if-foreign.false c.in-Ok.is).fetched
 
 pub loop-regs-smaller-in_default-checked-3 : goal.loop-regs-smaller-in_default-checked-3
-loop-regs-smaller-in_default-checked-3 c = halted-less c.loop-regs.regs c.by_check-regs-in_default-checked-3.ensures (ap says_checked c.in_default-checked-3.is) (found c.loop-regs.invariant.0.round c.loop-regs-test.true c.fetch-fetched.ensures c.foreign.ensures c.if-foreign.false c.in-Instruction.is).less
+loop-regs-smaller-in_default-checked-3 c = halted-less c.loop-regs.regs c.by-regs-in_default-checked-3.ensures (ap says c.in_default-checked-3.is) (found c.loop-regs.invariant.round c.loop-regs-test.true c.fetch-fetched.ensures c.foreign.ensures c.if-foreign.false c.in-Ok.is).less
 
 pub loop-regs-preserved-in_default-checked-3 : goal.loop-regs-preserved-in_default-checked-3
-loop-regs-preserved-in_default-checked-3 c = (stays c.loop-regs.invariant.0 (ends (found c.loop-regs.invariant.0.round c.loop-regs-test.true c.fetch-fetched.ensures c.foreign.ensures c.if-foreign.false c.in-Instruction.is) (call-acts (found c.loop-regs.invariant.0.round c.loop-regs-test.true c.fetch-fetched.ensures c.foreign.ensures c.if-foreign.false c.in-Instruction.is) c.in-56.is) (told says_checked c.can_call-checked.ensures c.in_default-checked-3.is) c.can_call-checked.ensures c.by_check-regs-in_default-checked-3.ensures), c.loop-regs.invariant.1)
+loop-regs-preserved-in_default-checked-3 c = stays c.loop-regs.invariant (ends (found c.loop-regs.invariant.round c.loop-regs-test.true c.fetch-fetched.ensures c.foreign.ensures c.if-foreign.false c.in-Ok.is) (call-acts (found c.loop-regs.invariant.round c.loop-regs-test.true c.fetch-fetched.ensures c.foreign.ensures c.if-foreign.false c.in-Ok.is) c.in-56.is) (told says c.can_call-checked.ensures c.in_default-checked-3.is) c.can_call-checked.ensures c.by-regs-in_default-checked-3.ensures)
 
 pub offset_bounds-returns-r-in-56 : goal.offset_bounds-returns-r-in-56
-offset_bounds-returns-r-in-56 c = omega (arith, call-room (told says_checked c.can_call-checked.ensures c.in-Fine-checked-2.is))
+offset_bounds-returns-r-in-56 c = omega (arith, call-room (told says c.can_call-checked.ensures c.in-Ok-checked-3.is))
 
 pub bounds-returns-r-in-56 : goal.bounds-returns-r-in-56
-bounds-returns-r-in-56 c = omega (arith, call-room (told says_checked c.can_call-checked.ensures c.in-Fine-checked-2.is))
+bounds-returns-r-in-56 c = omega (arith, call-room (told says c.can_call-checked.ensures c.in-Ok-checked-3.is))
 
 pub called-requires : goal.called-requires
-called-requires c = omega (arith, call-room (told says_checked c.can_call-checked.ensures c.in-Fine-checked-2.is))
+called-requires c = omega (arith, call-room (told says c.can_call-checked.ensures c.in-Ok-checked-3.is))
 
 pub overflow_add-regs-in-56 : goal.overflow_add-regs-in-56
-overflow_add-regs-in-56 c = omega (arith, call-room (told says_checked c.can_call-checked.ensures c.in-Fine-checked-2.is))
+overflow_add-regs-in-56 c = omega (arith, call-room (told says c.can_call-checked.ensures c.in-Ok-checked-3.is))
 
 pub overflow_add-regs-in-56-2 : goal.overflow_add-regs-in-56-2
-overflow_add-regs-in-56-2 c = omega (arith, call-room (told says_checked c.can_call-checked.ensures c.in-Fine-checked-2.is))
-
-pub price-requires-in-56 : goal.price-requires-in-56
-price-requires-in-56 c = c.loop-regs.invariant.1
+overflow_add-regs-in-56-2 c = omega (arith, call-room (told says c.can_call-checked.ensures c.in-Ok-checked-3.is))
 
 pub counted-regs-requires-in-56 : goal.counted-regs-requires-in-56
-counted-regs-requires-in-56 c = ((found c.loop-regs.invariant.0.round c.loop-regs-test.true c.fetch-fetched.ensures c.foreign.ensures c.if-foreign.false c.in-Instruction.is).less, ((omega (arith, c.loop-regs.invariant.0.round.priced, c.loop-regs.invariant.0.round.limit, c.loop-regs.invariant.0.round.left-within, (found c.loop-regs.invariant.0.round c.loop-regs-test.true c.fetch-fetched.ensures c.foreign.ensures c.if-foreign.false c.in-Instruction.is).less)), c.price-in-56.ensures.1))
+counted-regs-requires-in-56 c = ((found c.loop-regs.invariant.round c.loop-regs-test.true c.fetch-fetched.ensures c.foreign.ensures c.if-foreign.false c.in-Ok.is).less, ((omega (arith, c.loop-regs.invariant.round.priced, c.loop-regs.invariant.round.limit, c.loop-regs.invariant.round.left-within, (found c.loop-regs.invariant.round c.loop-regs-test.true c.fetch-fetched.ensures c.foreign.ensures c.if-foreign.false c.in-Ok.is).less)), c.price-in-56.ensures.1))
 
 pub loop-regs-smaller-in-56 : goal.loop-regs-smaller-in-56
 loop-regs-smaller-in-56 c = omega (arith, c.counted-regs-in-56.ensures.1)
 
 pub loop-regs-preserved-in-56 : goal.loop-regs-preserved-in-56
-loop-regs-preserved-in-56 c = (holds c.loop-regs.invariant.0 (c.called.ensures c.loop-regs.invariant.0.laid) refl refl refl (goes (found c.loop-regs.invariant.0.round c.loop-regs-test.true c.fetch-fetched.ensures c.foreign.ensures c.if-foreign.false c.in-Instruction.is) (call-acts (found c.loop-regs.invariant.0.round c.loop-regs-test.true c.fetch-fetched.ensures c.foreign.ensures c.if-foreign.false c.in-Instruction.is) c.in-56.is) (told says_checked c.can_call-checked.ensures c.in-Fine-checked-2.is) (held-there (c.called.ensures c.loop-regs.invariant.0.laid)) refl (record { lines_same = ap (λ (n : Note). n.aside.lines) (c.called.ensures c.loop-regs.invariant.0.laid).note-is; r-rises = omega arith; s-rises = omega arith }) c.price-in-56.ensures.0 c.counted-regs-in-56.ensures.0), c.loop-regs.invariant.1)
+loop-regs-preserved-in-56 c = holds c.loop-regs.invariant (c.called.ensures c.loop-regs.invariant.laid) refl refl refl (goes (found c.loop-regs.invariant.round c.loop-regs-test.true c.fetch-fetched.ensures c.foreign.ensures c.if-foreign.false c.in-Ok.is) (call-acts (found c.loop-regs.invariant.round c.loop-regs-test.true c.fetch-fetched.ensures c.foreign.ensures c.if-foreign.false c.in-Ok.is) c.in-56.is) (told says c.can_call-checked.ensures c.in-Ok-checked-3.is) (held-there (c.called.ensures c.loop-regs.invariant.laid)) refl (record { lines_same = ap (λ (n : Note). n.aside.lines) (c.called.ensures c.loop-regs.invariant.laid).note-is; r-rises = omega arith; s-rises = omega arith }) c.price-in-56.ensures.0 c.counted-regs-in-56.ensures.0)
 
 pub loop-regs-smaller-in_default-checked-4 : goal.loop-regs-smaller-in_default-checked-4
-loop-regs-smaller-in_default-checked-4 c = halted-less c.loop-regs.regs c.by_check-regs-in_default-checked-4.ensures (ap says_checked c.in_default-checked-4.is) (found c.loop-regs.invariant.0.round c.loop-regs-test.true c.fetch-fetched.ensures c.foreign.ensures c.if-foreign.false c.in-Instruction.is).less
+loop-regs-smaller-in_default-checked-4 c = halted-less c.loop-regs.regs c.by-regs-in_default-checked-4.ensures (ap says c.in_default-checked-4.is) (found c.loop-regs.invariant.round c.loop-regs-test.true c.fetch-fetched.ensures c.foreign.ensures c.if-foreign.false c.in-Ok.is).less
 
 pub loop-regs-preserved-in_default-checked-4 : goal.loop-regs-preserved-in_default-checked-4
-loop-regs-preserved-in_default-checked-4 c = (stays c.loop-regs.invariant.0 (ends (found c.loop-regs.invariant.0.round c.loop-regs-test.true c.fetch-fetched.ensures c.foreign.ensures c.if-foreign.false c.in-Instruction.is) (call-top-acts (found c.loop-regs.invariant.0.round c.loop-regs-test.true c.fetch-fetched.ensures c.foreign.ensures c.if-foreign.false c.in-Instruction.is) c.in-57.is) (told says_checked c.can_call-checked-in-57.ensures c.in_default-checked-4.is) c.can_call-checked-in-57.ensures c.by_check-regs-in_default-checked-4.ensures), c.loop-regs.invariant.1)
+loop-regs-preserved-in_default-checked-4 c = stays c.loop-regs.invariant (ends (found c.loop-regs.invariant.round c.loop-regs-test.true c.fetch-fetched.ensures c.foreign.ensures c.if-foreign.false c.in-Ok.is) (call-top-acts (found c.loop-regs.invariant.round c.loop-regs-test.true c.fetch-fetched.ensures c.foreign.ensures c.if-foreign.false c.in-Ok.is) c.in-57.is) (told says c.can_call-checked-in-57.ensures c.in_default-checked-4.is) c.can_call-checked-in-57.ensures c.by-regs-in_default-checked-4.ensures)
 
 pub overflow_sub-to : goal.overflow_sub-to
-overflow_sub-to c = omega (arith, call-room (told says_checked c.can_call-checked-in-57.ensures c.in-Fine-checked-3.is))
+overflow_sub-to c = omega (arith, call-room (told says c.can_call-checked-in-57.ensures c.in-Ok-checked-4.is))
 
 pub offset_bounds-cells-p-in-57 : goal.offset_bounds-cells-p-in-57
-offset_bounds-cells-p-in-57 c = omega (arith, call-room (told says_checked c.can_call-checked-in-57.ensures c.in-Fine-checked-3.is))
+offset_bounds-cells-p-in-57 c = omega (arith, call-room (told says c.can_call-checked-in-57.ensures c.in-Ok-checked-4.is))
 
 pub bounds-cells-p-in-57 : goal.bounds-cells-p-in-57
-bounds-cells-p-in-57 c = omega (arith, call-room (told says_checked c.can_call-checked-in-57.ensures c.in-Fine-checked-3.is))
+bounds-cells-p-in-57 c = omega (arith, call-room (told says c.can_call-checked-in-57.ensures c.in-Ok-checked-4.is))
 
 pub offset_bounds-returns-r-in-57 : goal.offset_bounds-returns-r-in-57
-offset_bounds-returns-r-in-57 c = omega (arith, call-room (told says_checked c.can_call-checked-in-57.ensures c.in-Fine-checked-3.is))
+offset_bounds-returns-r-in-57 c = omega (arith, call-room (told says c.can_call-checked-in-57.ensures c.in-Ok-checked-4.is))
 
 pub bounds-returns-r-in-57 : goal.bounds-returns-r-in-57
-bounds-returns-r-in-57 c = omega (arith, call-room (told says_checked c.can_call-checked-in-57.ensures c.in-Fine-checked-3.is))
+bounds-returns-r-in-57 c = omega (arith, call-room (told says c.can_call-checked-in-57.ensures c.in-Ok-checked-4.is))
 
 pub called-requires-in-57 : goal.called-requires-in-57
-called-requires-in-57 c = omega (arith, call-room (told says_checked c.can_call-checked-in-57.ensures c.in-Fine-checked-3.is))
+called-requires-in-57 c = omega (arith, call-room (told says c.can_call-checked-in-57.ensures c.in-Ok-checked-4.is))
 
 pub overflow_sub-regs-in-57 : goal.overflow_sub-regs-in-57
-overflow_sub-regs-in-57 c = omega (arith, call-room (told says_checked c.can_call-checked-in-57.ensures c.in-Fine-checked-3.is))
+overflow_sub-regs-in-57 c = omega (arith, call-room (told says c.can_call-checked-in-57.ensures c.in-Ok-checked-4.is))
 
 pub overflow_add-regs-in-57 : goal.overflow_add-regs-in-57
-overflow_add-regs-in-57 c = omega (arith, call-room (told says_checked c.can_call-checked-in-57.ensures c.in-Fine-checked-3.is))
+overflow_add-regs-in-57 c = omega (arith, call-room (told says c.can_call-checked-in-57.ensures c.in-Ok-checked-4.is))
 
 pub overflow_add-regs-in-57-2 : goal.overflow_add-regs-in-57-2
-overflow_add-regs-in-57-2 c = omega (arith, call-room (told says_checked c.can_call-checked-in-57.ensures c.in-Fine-checked-3.is))
-
-pub price-requires-in-57 : goal.price-requires-in-57
-price-requires-in-57 c = c.loop-regs.invariant.1
+overflow_add-regs-in-57-2 c = omega (arith, call-room (told says c.can_call-checked-in-57.ensures c.in-Ok-checked-4.is))
 
 pub counted-regs-requires-in-57 : goal.counted-regs-requires-in-57
-counted-regs-requires-in-57 c = ((found c.loop-regs.invariant.0.round c.loop-regs-test.true c.fetch-fetched.ensures c.foreign.ensures c.if-foreign.false c.in-Instruction.is).less, ((omega (arith, c.loop-regs.invariant.0.round.priced, c.loop-regs.invariant.0.round.limit, c.loop-regs.invariant.0.round.left-within, (found c.loop-regs.invariant.0.round c.loop-regs-test.true c.fetch-fetched.ensures c.foreign.ensures c.if-foreign.false c.in-Instruction.is).less)), c.price-in-57.ensures.1))
+counted-regs-requires-in-57 c = ((found c.loop-regs.invariant.round c.loop-regs-test.true c.fetch-fetched.ensures c.foreign.ensures c.if-foreign.false c.in-Ok.is).less, ((omega (arith, c.loop-regs.invariant.round.priced, c.loop-regs.invariant.round.limit, c.loop-regs.invariant.round.left-within, (found c.loop-regs.invariant.round c.loop-regs-test.true c.fetch-fetched.ensures c.foreign.ensures c.if-foreign.false c.in-Ok.is).less)), c.price-in-57.ensures.1))
 
 pub loop-regs-smaller-in-57 : goal.loop-regs-smaller-in-57
 loop-regs-smaller-in-57 c = omega (arith, c.counted-regs-in-57.ensures.1)
 
 pub loop-regs-preserved-in-57 : goal.loop-regs-preserved-in-57
-loop-regs-preserved-in-57 c = (holds c.loop-regs.invariant.0 (c.called-in-57.ensures c.loop-regs.invariant.0.laid) refl refl refl (goes (found c.loop-regs.invariant.0.round c.loop-regs-test.true c.fetch-fetched.ensures c.foreign.ensures c.if-foreign.false c.in-Instruction.is) (call-top-acts (found c.loop-regs.invariant.0.round c.loop-regs-test.true c.fetch-fetched.ensures c.foreign.ensures c.if-foreign.false c.in-Instruction.is) c.in-57.is) (told says_checked c.can_call-checked-in-57.ensures c.in-Fine-checked-3.is) (held-there (c.called-in-57.ensures c.loop-regs.invariant.0.laid)) refl (record { lines_same = ap (λ (n : Note). n.aside.lines) (c.called-in-57.ensures c.loop-regs.invariant.0.laid).note-is; r-rises = omega arith; s-rises = omega arith }) c.price-in-57.ensures.0 c.counted-regs-in-57.ensures.0), c.loop-regs.invariant.1)
+loop-regs-preserved-in-57 c = holds c.loop-regs.invariant (c.called-in-57.ensures c.loop-regs.invariant.laid) refl refl refl (goes (found c.loop-regs.invariant.round c.loop-regs-test.true c.fetch-fetched.ensures c.foreign.ensures c.if-foreign.false c.in-Ok.is) (call-top-acts (found c.loop-regs.invariant.round c.loop-regs-test.true c.fetch-fetched.ensures c.foreign.ensures c.if-foreign.false c.in-Ok.is) c.in-57.is) (told says c.can_call-checked-in-57.ensures c.in-Ok-checked-4.is) (held-there (c.called-in-57.ensures c.loop-regs.invariant.laid)) refl (record { lines_same = ap (λ (n : Note). n.aside.lines) (c.called-in-57.ensures c.loop-regs.invariant.laid).note-is; r-rises = omega arith; s-rises = omega arith }) c.price-in-57.ensures.0 c.counted-regs-in-57.ensures.0)
 
 pub loop-regs-smaller-in_default-checked-5 : goal.loop-regs-smaller-in_default-checked-5
-loop-regs-smaller-in_default-checked-5 c = halted-less c.loop-regs.regs c.by_check-regs-in_default-checked-5.ensures (ap says_checked c.in_default-checked-5.is) (found c.loop-regs.invariant.0.round c.loop-regs-test.true c.fetch-fetched.ensures c.foreign.ensures c.if-foreign.false c.in-Instruction.is).less
+loop-regs-smaller-in_default-checked-5 c = halted-less c.loop-regs.regs c.by-regs-in_default-checked-5.ensures (ap says c.in_default-checked-5.is) (found c.loop-regs.invariant.round c.loop-regs-test.true c.fetch-fetched.ensures c.foreign.ensures c.if-foreign.false c.in-Ok.is).less
 
 pub loop-regs-preserved-in_default-checked-5 : goal.loop-regs-preserved-in_default-checked-5
-loop-regs-preserved-in_default-checked-5 c = (stays c.loop-regs.invariant.0 (ends (found c.loop-regs.invariant.0.round c.loop-regs-test.true c.fetch-fetched.ensures c.foreign.ensures c.if-foreign.false c.in-Instruction.is) (rti-acts (found c.loop-regs.invariant.0.round c.loop-regs-test.true c.fetch-fetched.ensures c.foreign.ensures c.if-foreign.false c.in-Instruction.is) c.in-60.is refl refl refl) (told says_checked (c.can_return-checked.ensures ∙ ap (λ b. returnable b c.loop-regs.regs.s) c.block.ensures) c.in_default-checked-5.is) (c.can_return-checked.ensures ∙ ap (λ b. returnable b c.loop-regs.regs.s) c.block.ensures) c.by_check-regs-in_default-checked-5.ensures), c.loop-regs.invariant.1)
+loop-regs-preserved-in_default-checked-5 c = stays c.loop-regs.invariant (ends (found c.loop-regs.invariant.round c.loop-regs-test.true c.fetch-fetched.ensures c.foreign.ensures c.if-foreign.false c.in-Ok.is) (rti-acts (found c.loop-regs.invariant.round c.loop-regs-test.true c.fetch-fetched.ensures c.foreign.ensures c.if-foreign.false c.in-Ok.is) c.in-60.is refl refl refl) (told says (c.can_return-checked.ensures ∙ ap (λ b. returnable b c.loop-regs.regs.s) c.block.ensures) c.in_default-checked-5.is) (c.can_return-checked.ensures ∙ ap (λ b. returnable b c.loop-regs.regs.s) c.block.ensures) c.by-regs-in_default-checked-5.ensures)
 
 pub overflow_sub-regs-in-60 : goal.overflow_sub-regs-in-60
-overflow_sub-regs-in-60 c = omega (arith, return-room (note_in c.loop-regs.rows).aside.lines.block (told says_checked (c.can_return-checked.ensures ∙ ap (λ b. returnable b c.loop-regs.regs.s) c.block.ensures) c.in-Fine-checked-4.is))
+overflow_sub-regs-in-60 c = omega (arith, return-room (note_in c.loop-regs.rows).aside.lines.block (told says (c.can_return-checked.ensures ∙ ap (λ b. returnable b c.loop-regs.regs.s) c.block.ensures) c.in-Ok-checked-5.is))
 
 pub overflow_sub-s : goal.overflow_sub-s
-overflow_sub-s c = omega (arith, return-room (note_in c.loop-regs.rows).aside.lines.block (told says_checked (c.can_return-checked.ensures ∙ ap (λ b. returnable b c.loop-regs.regs.s) c.block.ensures) c.in-Fine-checked-4.is))
+overflow_sub-s c = omega (arith, return-room (note_in c.loop-regs.rows).aside.lines.block (told says (c.can_return-checked.ensures ∙ ap (λ b. returnable b c.loop-regs.regs.s) c.block.ensures) c.in-Ok-checked-5.is))
 
 pub copy_of_s-requires : goal.copy_of_s-requires
-copy_of_s-requires c = omega (arith, c.loop-regs.invariant.0.round.e-within)
+copy_of_s-requires c = omega (arith, c.loop-regs.invariant.round.e-within)
 
 pub copy_of_r-requires : goal.copy_of_r-requires
-copy_of_r-requires c = omega (arith, c.loop-regs.invariant.0.round.s-within)
+copy_of_r-requires c = omega (arith, c.loop-regs.invariant.round.s-within)
 
 pub return_address-requires : goal.return_address-requires
-return_address-requires c = omega (arith, c.loop-regs.invariant.0.round.s-within)
-
-pub price-requires-in-60 : goal.price-requires-in-60
-price-requires-in-60 c = c.loop-regs.invariant.1
+return_address-requires c = omega (arith, c.loop-regs.invariant.round.s-within)
 
 pub counted-regs-requires-in-60 : goal.counted-regs-requires-in-60
-counted-regs-requires-in-60 c = ((found c.loop-regs.invariant.0.round c.loop-regs-test.true c.fetch-fetched.ensures c.foreign.ensures c.if-foreign.false c.in-Instruction.is).less, ((omega (arith, c.loop-regs.invariant.0.round.priced, c.loop-regs.invariant.0.round.limit, c.loop-regs.invariant.0.round.left-within, (found c.loop-regs.invariant.0.round c.loop-regs-test.true c.fetch-fetched.ensures c.foreign.ensures c.if-foreign.false c.in-Instruction.is).less)), c.price-in-60.ensures.1))
+counted-regs-requires-in-60 c = ((found c.loop-regs.invariant.round c.loop-regs-test.true c.fetch-fetched.ensures c.foreign.ensures c.if-foreign.false c.in-Ok.is).less, ((omega (arith, c.loop-regs.invariant.round.priced, c.loop-regs.invariant.round.limit, c.loop-regs.invariant.round.left-within, (found c.loop-regs.invariant.round c.loop-regs-test.true c.fetch-fetched.ensures c.foreign.ensures c.if-foreign.false c.in-Ok.is).less)), c.price-in-60.ensures.1))
 
 pub loop-regs-smaller-in-60 : goal.loop-regs-smaller-in-60
 loop-regs-smaller-in-60 c = omega (arith, c.counted-regs-in-60.ensures.1, c.parted-regs-in-60.ensures.1)
 
 pub loop-regs-preserved-in-60 : goal.loop-regs-preserved-in-60
-loop-regs-preserved-in-60 c = (holds c.loop-regs.invariant.0 (c.release.ensures c.loop-regs.copies c.loop-regs.invariant.0.laid) refl refl (due-kept (note_in c.loop-regs.rows).aside.lines freed) (goes_in (found c.loop-regs.invariant.0.round c.loop-regs-test.true c.fetch-fetched.ensures c.foreign.ensures c.if-foreign.false c.in-Instruction.is) (rti-acts (found c.loop-regs.invariant.0.round c.loop-regs-test.true c.fetch-fetched.ensures c.foreign.ensures c.if-foreign.false c.in-Instruction.is) c.in-60.is (c.e_after_drop.ensures ∙ ap (e_after_drop_of (c.loop-regs.regs.s - 1) c.loop-regs.regs.e) (c.copy_of_s.ensures c.loop-regs.rows)) (c.copy_of_r.ensures c.loop-regs.rows) (c.return_address.ensures c.loop-regs.copies)) (told says_checked (c.can_return-checked.ensures ∙ ap (λ b. returnable b c.loop-regs.regs.s) c.block.ensures) c.in-Fine-checked-4.is) (held-there (c.release.ensures c.loop-regs.copies c.loop-regs.invariant.0.laid)) refl c.price-in-60.ensures.0 c.counted-regs-in-60.ensures.0 ((ap (λ (n : Note). n.heeds) (c.release.ensures c.loop-regs.copies c.loop-regs.invariant.0.laid).note-is) ∙ c.loop-regs.invariant.0.heeds-same) c.loop-regs.invariant.0.unasked c.held-in-60.ensures c.parted-regs-in-60.ensures.0 (unheeded-here c.loop-regs.invariant.0 c.release.new.rows (ap (λ (n : Note). n.heeds) (c.release.ensures c.loop-regs.copies c.loop-regs.invariant.0.laid).note-is) (ap (λ (n : Note). lowest_due n.aside.lines) (c.release.ensures c.loop-regs.copies c.loop-regs.invariant.0.laid).note-is ∙ (due-kept (note_in c.loop-regs.rows).aside.lines freed)))), c.loop-regs.invariant.1)
+loop-regs-preserved-in-60 c = holds c.loop-regs.invariant (c.release.ensures c.loop-regs.copies c.loop-regs.invariant.laid) refl refl (due-kept (note_in c.loop-regs.rows).aside.lines freed) (goes_in (found c.loop-regs.invariant.round c.loop-regs-test.true c.fetch-fetched.ensures c.foreign.ensures c.if-foreign.false c.in-Ok.is) (rti-acts (found c.loop-regs.invariant.round c.loop-regs-test.true c.fetch-fetched.ensures c.foreign.ensures c.if-foreign.false c.in-Ok.is) c.in-60.is (c.e_after_drop.ensures ∙ ap (e_after_drop_of (c.loop-regs.regs.s - 1) c.loop-regs.regs.e) (c.copy_of_s.ensures c.loop-regs.rows)) (c.copy_of_r.ensures c.loop-regs.rows) (c.return_address.ensures c.loop-regs.copies)) (told says (c.can_return-checked.ensures ∙ ap (λ b. returnable b c.loop-regs.regs.s) c.block.ensures) c.in-Ok-checked-5.is) (held-there (c.release.ensures c.loop-regs.copies c.loop-regs.invariant.laid)) refl c.price-in-60.ensures.0 c.counted-regs-in-60.ensures.0 ((ap (λ (n : Note). n.heeds) (c.release.ensures c.loop-regs.copies c.loop-regs.invariant.laid).note-is) ∙ c.loop-regs.invariant.heeds-same) c.loop-regs.invariant.unasked c.held-in-60.ensures c.parted-regs-in-60.ensures.0 (unheeded-here c.loop-regs.invariant c.release.new.rows (ap (λ (n : Note). n.heeds) (c.release.ensures c.loop-regs.copies c.loop-regs.invariant.laid).note-is) (ap (λ (n : Note). lowest_due n.aside.lines) (c.release.ensures c.loop-regs.copies c.loop-regs.invariant.laid).note-is ∙ (due-kept (note_in c.loop-regs.rows).aside.lines freed))))
 
 pub loop-regs-smaller-in_default-exit : goal.loop-regs-smaller-in_default-exit
-loop-regs-smaller-in_default-exit c = halted-less c.loop-regs.regs c.by_exit-regs.ensures (ap says_exit c.in_default-exit.is) (found c.loop-regs.invariant.0.round c.loop-regs-test.true c.fetch-fetched.ensures c.foreign.ensures c.if-foreign.false c.in-Instruction.is).less
+loop-regs-smaller-in_default-exit c = halted-less c.loop-regs.regs c.by_exit-regs.ensures (ap says_exit c.in_default-exit.is) (found c.loop-regs.invariant.round c.loop-regs-test.true c.fetch-fetched.ensures c.foreign.ensures c.if-foreign.false c.in-Ok.is).less
 
 pub loop-regs-preserved-in_default-exit : goal.loop-regs-preserved-in_default-exit
-loop-regs-preserved-in_default-exit c = (stays c.loop-regs.invariant.0 (ends (found c.loop-regs.invariant.0.round c.loop-regs-test.true c.fetch-fetched.ensures c.foreign.ensures c.if-foreign.false c.in-Instruction.is) (exit-acts (found c.loop-regs.invariant.0.round c.loop-regs-test.true c.fetch-fetched.ensures c.foreign.ensures c.if-foreign.false c.in-Instruction.is) c.in-61.is refl refl refl) (told says_exit c.can_exit-exit.ensures c.in_default-exit.is) c.can_exit-exit.ensures c.by_exit-regs.ensures), c.loop-regs.invariant.1)
+loop-regs-preserved-in_default-exit c = stays c.loop-regs.invariant (ends (found c.loop-regs.invariant.round c.loop-regs-test.true c.fetch-fetched.ensures c.foreign.ensures c.if-foreign.false c.in-Ok.is) (exit-acts (found c.loop-regs.invariant.round c.loop-regs-test.true c.fetch-fetched.ensures c.foreign.ensures c.if-foreign.false c.in-Ok.is) c.in-61.is refl refl refl) (told says_exit c.can_exit-exit.ensures c.in_default-exit.is) c.can_exit-exit.ensures c.by_exit-regs.ensures)
 
 pub overflow_sub-regs-in-61 : goal.overflow_sub-regs-in-61
 overflow_sub-regs-in-61 c = omega (arith, exit-room (told says_exit c.can_exit-exit.ensures c.in-Frame.is))
@@ -354,58 +334,49 @@ pub overflow_sub-s-in-61 : goal.overflow_sub-s-in-61
 overflow_sub-s-in-61 c = omega (arith, exit-room (told says_exit c.can_exit-exit.ensures c.in-Frame.is))
 
 pub copy_of_s-requires-in-61 : goal.copy_of_s-requires-in-61
-copy_of_s-requires-in-61 c = omega (arith, c.loop-regs.invariant.0.round.e-within)
+copy_of_s-requires-in-61 c = omega (arith, c.loop-regs.invariant.round.e-within)
 
 pub copy_of_r-requires-in-61 : goal.copy_of_r-requires-in-61
-copy_of_r-requires-in-61 c = omega (arith, c.loop-regs.invariant.0.round.s-within)
+copy_of_r-requires-in-61 c = omega (arith, c.loop-regs.invariant.round.s-within)
 
 pub return_address-requires-in-61 : goal.return_address-requires-in-61
-return_address-requires-in-61 c = omega (arith, c.loop-regs.invariant.0.round.s-within)
-
-pub price-requires-in-61 : goal.price-requires-in-61
-price-requires-in-61 c = c.loop-regs.invariant.1
+return_address-requires-in-61 c = omega (arith, c.loop-regs.invariant.round.s-within)
 
 pub counted-regs-requires-in-61 : goal.counted-regs-requires-in-61
-counted-regs-requires-in-61 c = ((found c.loop-regs.invariant.0.round c.loop-regs-test.true c.fetch-fetched.ensures c.foreign.ensures c.if-foreign.false c.in-Instruction.is).less, ((omega (arith, c.loop-regs.invariant.0.round.priced, c.loop-regs.invariant.0.round.limit, c.loop-regs.invariant.0.round.left-within, (found c.loop-regs.invariant.0.round c.loop-regs-test.true c.fetch-fetched.ensures c.foreign.ensures c.if-foreign.false c.in-Instruction.is).less)), c.price-in-61.ensures.1))
+counted-regs-requires-in-61 c = ((found c.loop-regs.invariant.round c.loop-regs-test.true c.fetch-fetched.ensures c.foreign.ensures c.if-foreign.false c.in-Ok.is).less, ((omega (arith, c.loop-regs.invariant.round.priced, c.loop-regs.invariant.round.limit, c.loop-regs.invariant.round.left-within, (found c.loop-regs.invariant.round c.loop-regs-test.true c.fetch-fetched.ensures c.foreign.ensures c.if-foreign.false c.in-Ok.is).less)), c.price-in-61.ensures.1))
 
 pub loop-regs-smaller-in-61 : goal.loop-regs-smaller-in-61
 loop-regs-smaller-in-61 c = omega (arith, c.counted-regs-in-61.ensures.1, c.parted-regs-in-61.ensures.1)
 
 pub loop-regs-preserved-in-61 : goal.loop-regs-preserved-in-61
-loop-regs-preserved-in-61 c = (stays c.loop-regs.invariant.0 (goes_in (found c.loop-regs.invariant.0.round c.loop-regs-test.true c.fetch-fetched.ensures c.foreign.ensures c.if-foreign.false c.in-Instruction.is) (exit-acts (found c.loop-regs.invariant.0.round c.loop-regs-test.true c.fetch-fetched.ensures c.foreign.ensures c.if-foreign.false c.in-Instruction.is) c.in-61.is (c.e_after_drop-in-61.ensures ∙ ap (e_after_drop_of (c.loop-regs.regs.s - 1) c.loop-regs.regs.e) (c.copy_of_s-in-61.ensures c.loop-regs.rows)) (c.copy_of_r-in-61.ensures c.loop-regs.rows) (c.return_address-in-61.ensures c.loop-regs.copies)) (told says_exit c.can_exit-exit.ensures c.in-Frame.is) refl refl c.price-in-61.ensures.0 c.counted-regs-in-61.ensures.0 c.loop-regs.invariant.0.heeds-same c.loop-regs.invariant.0.unasked c.held-in-61.ensures c.parted-regs-in-61.ensures.0 (unheeded-here c.loop-regs.invariant.0 c.loop-regs.rows refl refl)), c.loop-regs.invariant.1)
-
-pub price-requires-in-62 : goal.price-requires-in-62
-price-requires-in-62 c = c.loop-regs.invariant.1
+loop-regs-preserved-in-61 c = stays c.loop-regs.invariant (goes_in (found c.loop-regs.invariant.round c.loop-regs-test.true c.fetch-fetched.ensures c.foreign.ensures c.if-foreign.false c.in-Ok.is) (exit-acts (found c.loop-regs.invariant.round c.loop-regs-test.true c.fetch-fetched.ensures c.foreign.ensures c.if-foreign.false c.in-Ok.is) c.in-61.is (c.e_after_drop-in-61.ensures ∙ ap (e_after_drop_of (c.loop-regs.regs.s - 1) c.loop-regs.regs.e) (c.copy_of_s-in-61.ensures c.loop-regs.rows)) (c.copy_of_r-in-61.ensures c.loop-regs.rows) (c.return_address-in-61.ensures c.loop-regs.copies)) (told says_exit c.can_exit-exit.ensures c.in-Frame.is) refl refl c.price-in-61.ensures.0 c.counted-regs-in-61.ensures.0 c.loop-regs.invariant.heeds-same c.loop-regs.invariant.unasked c.held-in-61.ensures c.parted-regs-in-61.ensures.0 (unheeded-here c.loop-regs.invariant c.loop-regs.rows refl refl))
 
 pub counted-regs-requires-in-62 : goal.counted-regs-requires-in-62
-counted-regs-requires-in-62 c = ((found c.loop-regs.invariant.0.round c.loop-regs-test.true c.fetch-fetched.ensures c.foreign.ensures c.if-foreign.false c.in-Instruction.is).less, ((omega (arith, c.loop-regs.invariant.0.round.priced, c.loop-regs.invariant.0.round.limit, c.loop-regs.invariant.0.round.left-within, (found c.loop-regs.invariant.0.round c.loop-regs-test.true c.fetch-fetched.ensures c.foreign.ensures c.if-foreign.false c.in-Instruction.is).less)), c.price-in-62.ensures.1))
+counted-regs-requires-in-62 c = ((found c.loop-regs.invariant.round c.loop-regs-test.true c.fetch-fetched.ensures c.foreign.ensures c.if-foreign.false c.in-Ok.is).less, ((omega (arith, c.loop-regs.invariant.round.priced, c.loop-regs.invariant.round.limit, c.loop-regs.invariant.round.left-within, (found c.loop-regs.invariant.round c.loop-regs-test.true c.fetch-fetched.ensures c.foreign.ensures c.if-foreign.false c.in-Ok.is).less)), c.price-in-62.ensures.1))
 
 pub loop-regs-smaller-in-62 : goal.loop-regs-smaller-in-62
 loop-regs-smaller-in-62 c = omega (arith, c.counted-regs-in-62.ensures.1, c.paused-regs.ensures.1)
 
 pub loop-regs-preserved-in-62 : goal.loop-regs-preserved-in-62
-loop-regs-preserved-in-62 c = (stays c.loop-regs.invariant.0 (paused (found c.loop-regs.invariant.0.round c.loop-regs-test.true c.fetch-fetched.ensures c.foreign.ensures c.if-foreign.false c.in-Instruction.is) (pause-is (found c.loop-regs.invariant.0.round c.loop-regs-test.true c.fetch-fetched.ensures c.foreign.ensures c.if-foreign.false c.in-Instruction.is) c.in-62.is) refl c.price-in-62.ensures.0 (record { lines_same = refl; r-rises = omega arith; s-rises = omega arith }) c.in-62.is c.counted-regs-in-62.ensures.0 c.paused-regs.ensures.0), c.loop-regs.invariant.1)
+loop-regs-preserved-in-62 c = stays c.loop-regs.invariant (paused (found c.loop-regs.invariant.round c.loop-regs-test.true c.fetch-fetched.ensures c.foreign.ensures c.if-foreign.false c.in-Ok.is) (pause-is (found c.loop-regs.invariant.round c.loop-regs-test.true c.fetch-fetched.ensures c.foreign.ensures c.if-foreign.false c.in-Ok.is) c.in-62.is) refl c.price-in-62.ensures.0 (record { lines_same = refl; r-rises = omega arith; s-rises = omega arith }) c.in-62.is c.counted-regs-in-62.ensures.0 c.paused-regs.ensures.0)
 
 pub on_cells-done-requires : goal.on_cells-done-requires
-on_cells-done-requires c = (c.loop-regs.invariant.0.round.p-within, (omega (arith, c.if-code-gt127.false), (record { not07 = (search rules); not08 = (search rules); not09 = (search rules); not_0b = (search rules); not_0c = (search rules); not_0d = (search rules); not_2d = (search rules); not_2e = (search rules); not_2f = (search rules); not30 = (search rules); not31 = (search rules); not32 = (search rules); not38 = (search rules); not39 = (search rules); not_3c = (search rules); not_3d = (search rules); not_3e = (search rules) })))
+on_cells-done-requires c = (c.loop-regs.invariant.round.p-within, (omega (arith, c.if-code-gt127.false), (record { not07 = (search rules); not08 = (search rules); not09 = (search rules); not_0b = (search rules); not_0c = (search rules); not_0d = (search rules); not_2d = (search rules); not_2e = (search rules); not_2f = (search rules); not30 = (search rules); not31 = (search rules); not32 = (search rules); not38 = (search rules); not39 = (search rules); not_3c = (search rules); not_3d = (search rules); not_3e = (search rules) })))
 
 pub loop-regs-smaller-in_default-done-2 : goal.loop-regs-smaller-in_default-done-2
-loop-regs-smaller-in_default-done-2 c = halted-less c.loop-regs.regs c.by_done-regs-in_default-done-2.ensures (ap says_done c.in_default-done-2.is) (found c.loop-regs.invariant.0.round c.loop-regs-test.true c.fetch-fetched.ensures c.foreign.ensures c.if-foreign.false c.in-Instruction.is).less
+loop-regs-smaller-in_default-done-2 c = halted-less c.loop-regs.regs c.by-regs-in_default-done-2.ensures (ap says c.in_default-done-2.is) (found c.loop-regs.invariant.round c.loop-regs-test.true c.fetch-fetched.ensures c.foreign.ensures c.if-foreign.false c.in-Ok.is).less
 
 pub loop-regs-preserved-in_default-done-2 : goal.loop-regs-preserved-in_default-done-2
-loop-regs-preserved-in_default-done-2 c = (stays c.loop-regs.invariant.0 (cells-end (found c.loop-regs.invariant.0.round c.loop-regs-test.true c.fetch-fetched.ensures c.foreign.ensures c.if-foreign.false c.in-Instruction.is) (search rules) (search rules) c.on_cells-done.ensures (ap says_done c.in_default-done-2.is) c.by_done-regs-in_default-done-2.ensures), c.loop-regs.invariant.1)
-
-pub price-requires-in_default-code : goal.price-requires-in_default-code
-price-requires-in_default-code c = c.loop-regs.invariant.1
+loop-regs-preserved-in_default-done-2 c = stays c.loop-regs.invariant (cells-end (found c.loop-regs.invariant.round c.loop-regs-test.true c.fetch-fetched.ensures c.foreign.ensures c.if-foreign.false c.in-Ok.is) (search rules) (search rules) c.on_cells-done.ensures (ap says c.in_default-done-2.is) c.by-regs-in_default-done-2.ensures)
 
 pub counted-regs-requires-in_default-code : goal.counted-regs-requires-in_default-code
-counted-regs-requires-in_default-code c = ((found c.loop-regs.invariant.0.round c.loop-regs-test.true c.fetch-fetched.ensures c.foreign.ensures c.if-foreign.false c.in-Instruction.is).less, ((omega (arith, c.loop-regs.invariant.0.round.priced, c.loop-regs.invariant.0.round.limit, c.loop-regs.invariant.0.round.left-within, (found c.loop-regs.invariant.0.round c.loop-regs-test.true c.fetch-fetched.ensures c.foreign.ensures c.if-foreign.false c.in-Instruction.is).less)), c.price-in_default-code.ensures.1))
+counted-regs-requires-in_default-code c = ((found c.loop-regs.invariant.round c.loop-regs-test.true c.fetch-fetched.ensures c.foreign.ensures c.if-foreign.false c.in-Ok.is).less, ((omega (arith, c.loop-regs.invariant.round.priced, c.loop-regs.invariant.round.limit, c.loop-regs.invariant.round.left-within, (found c.loop-regs.invariant.round c.loop-regs-test.true c.fetch-fetched.ensures c.foreign.ensures c.if-foreign.false c.in-Ok.is).less)), c.price-in_default-code.ensures.1))
 
 pub loop-regs-smaller : goal.loop-regs-smaller
 loop-regs-smaller c = omega (arith, c.counted-regs-in_default-code.ensures.1)
 
 pub loop-regs-preserved : goal.loop-regs-preserved
-loop-regs-preserved c = (stays c.loop-regs.invariant.0 (goes (found c.loop-regs.invariant.0.round c.loop-regs-test.true c.fetch-fetched.ensures c.foreign.ensures c.if-foreign.false c.in-Instruction.is) (cells-acts (found c.loop-regs.invariant.0.round c.loop-regs-test.true c.fetch-fetched.ensures c.foreign.ensures c.if-foreign.false c.in-Instruction.is) (search rules) (search rules) c.on_cells-done.ensures) (ap says_done c.in-Went-done.is) refl refl (record { lines_same = refl; r-rises = omega arith; s-rises = omega arith }) c.price-in_default-code.ensures.0 c.counted-regs-in_default-code.ensures.0), c.loop-regs.invariant.1)
+loop-regs-preserved c = stays c.loop-regs.invariant (goes (found c.loop-regs.invariant.round c.loop-regs-test.true c.fetch-fetched.ensures c.foreign.ensures c.if-foreign.false c.in-Ok.is) (cells-acts (found c.loop-regs.invariant.round c.loop-regs-test.true c.fetch-fetched.ensures c.foreign.ensures c.if-foreign.false c.in-Ok.is) (search rules) (search rules) c.on_cells-done.ensures) (ap says c.in-Ok-done-2.is) refl refl (record { lines_same = refl; r-rises = omega arith; s-rises = omega arith }) c.price-in_default-code.ensures.0 c.counted-regs-in_default-code.ensures.0)
 
 pub returns : goal.returns
-returns c = record { leaves = record { nothing_left = omega (arith, c.loop-regs-test.false); unspent-within = c.loop-regs.invariant.0.round.unspent-within; priced = omega (arith, c.loop-regs.invariant.0.round.priced); long = c.loop-regs.invariant.0.round.long; laid = c.loop-regs.invariant.0.laid; loses = c.loop-regs.invariant.0.loses }; heeds-same = c.loop-regs.invariant.0.heeds-same; due-same = c.loop-regs.invariant.0.due-same; unmarked = λ h. unmarked-then c.loop-regs.regs.again (λ is. c.loop-regs.invariant.0.round.marks is h); same = c.loop-regs.invariant.0.round.over c.loop-regs-test.false; answered = c.loop-regs.invariant.0.round.answered; goes = c.loop-regs.invariant.0.round.more }
+returns c = record { leaves = record { nothing_left = omega (arith, c.loop-regs-test.false); unspent-within = c.loop-regs.invariant.round.unspent-within; priced = omega (arith, c.loop-regs.invariant.round.priced); long = c.loop-regs.invariant.round.long; laid = c.loop-regs.invariant.laid; loses = c.loop-regs.invariant.loses }; heeds-same = c.loop-regs.invariant.heeds-same; due-same = c.loop-regs.invariant.due-same; unmarked = λ h. unmarked-then c.loop-regs.regs.again (λ is. c.loop-regs.invariant.round.marks is h); same = c.loop-regs.invariant.round.over c.loop-regs-test.false; answered = c.loop-regs.invariant.round.answered; goes = c.loop-regs.invariant.round.more }

@@ -1,5 +1,5 @@
 -- Too few cells is test 5; else the place decides.
-use Rattle.std.proofs.Common.{rules, le-ltb, lt-ltb}
+use Rattle.std.proofs.Common.{le-ltb, lt-ltb}
 use Rattle.run_words.specs.Accesses.{reach_of}
 use Rattle.run_memory.proofs.access.reach.Goals as goal
 

@@ -1,7 +1,6 @@
 -- Within the shared bytes nothing bars it; else the place decides.
 use Rattle.reach.specs.Spots.{width_of}
-use Rattle.run_words.specs.Laws.Places.{shared-place, told-within}
-use Rattle.std.proofs.Common.{rules}
+use Rattle.run_words.specs.Laws.Places.{shared-place}
 use Rattle.run_memory.proofs.access.spot_of.Goals as goal
 
 pub returns-then-at-reach : goal.returns-then-at-reach

@@ -1,6 +1,4 @@
 -- Room for five shared bytes is enough; else what bars the instruction decides.
-use Rattle.std.proofs.Common.{ap, ◌∙◌, rules}
-use Rattle.machine.specs.Reach.{is_foreign}
 use Rattle.run_words.specs.Laws.Fetching.{all-shared}
 use Rattle.run_memory.proofs.fetch.foreign.Goals as goal
 

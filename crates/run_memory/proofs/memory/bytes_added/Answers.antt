@@ -1,5 +1,5 @@
 -- Two and two bytes, then both halves.
-use Rattle.std.proofs.Common.{arith, rules}
+use Rattle.std.proofs.Common.{rules}
 use Rattle.run_words.specs.Laws.Losses.{halves-added}
 use Rattle.run_memory.proofs.memory.bytes_added.Goals as goal
 

@@ -1,5 +1,5 @@
 -- What is written in the part stands in the whole, and what stood in the part stood in the whole.
-use Rattle.std.proofs.Common.{◌∙◌, arith, rules}
+use Rattle.std.proofs.Common.{◌∙◌, arith}
 use Rattle.machine.specs.Memory.{size}
 use Rattle.reach.specs.Spots.{width_of}
 use Rattle.run_words.specs.Laws.Lent.{stored-in-part}

@@ -1,7 +1,6 @@
 -- The loop is the definition's run of turns; what the memory lost is what all four have lost.
 use mathlib.Core.Path.{◌≡◌}
 use Prim.Native.Nat.{◌%◌, ◌^◌}
-use Rattle.machine.specs.Codes.{cycle_table}
 use Rattle.machine.specs.Tasks.{paired, start_of}
 use Rattle.machine.specs.Sum.{sum_of, sum_after}
 use Rattle.machine.proofs.Laws.Turns.{to_go}
@@ -14,7 +13,7 @@ use Rattle.turns.proofs.turns.turns.Given as goal
 abbrev pub invariant-loop-clock : goal.invariant-loop-clock
 invariant-loop-clock l =
     Seated l.quantum l.budget l.lined (start_of l.initial.mem (paired (machines_in l.initial.cells l.initial.returns l.initial.rows l.initial.copies l.initial.saved) l.initial.kept) l.budget) l.mem l.kept l.rests l.cells l.returns l.rows l.copies l.saved l.clock (says_next l.next) ×
-    ((l.costs ≡ cycle_table) × ((sum_of (losses_in l.rows) % 2 ^ 32 ≡ sum_after 0 l.mem l.initial.mem) × (l.most ≡ l.quantum)))
+    ((sum_of (losses_in l.rows) % 2 ^ 32 ≡ sum_after 0 l.mem l.initial.mem) × (l.most ≡ l.quantum))
 
 abbrev pub decreases-loop-clock : goal.decreases-loop-clock
 decreases-loop-clock l =

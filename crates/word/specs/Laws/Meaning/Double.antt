@@ -19,7 +19,7 @@ cut number bit n below small whole = go (nat_le (2 ^ 64) n) refl
 -- where they make up x less y, the number is that modulo 2 ^ 64, and the bit tells whether more is taken off than is there
 taken : (number bit x y : ℕ) → number < 2 ^ 64 → bit ≤ 1 → x < 2 ^ 64 → y < 2 ^ 64 → number + y ≡ x + bit * 2 ^ 64 →
     (number ≡ (x + 2 ^ 64 - y) % 2 ^ 64) × (bit ≡ bit_of (nat_lt x y))
-taken number bit x y below small x_Fits y-fits whole = go (nat_lt x y) refl
+taken number bit x y below small x-fits y-fits whole = go (nat_lt x y) refl
   where
     go : (t : Bool) → nat_lt x y ≡ t → (number ≡ (x + 2 ^ 64 - y) % 2 ^ 64) × (bit ≡ bit_of (nat_lt x y))
     go true e = (omega (arith, ltb-true x y e), rw e (omega (arith, ltb-true x y e)))

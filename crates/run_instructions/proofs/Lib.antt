@@ -1,0 +1,2 @@
+-- tests one after another
+mod Testing

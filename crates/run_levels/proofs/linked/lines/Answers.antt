@@ -1,8 +1,0 @@
--- They stand behind what the memory lost.
-use Rattle.std.proofs.Common.{refl, rules}
-use Rattle.run_words.specs.Levels.{note_in}
-use Rattle.run_levels.proofs.linked.lines.Goals as goal
-
-pub returns : goal.returns
-unfolding note_in
-returns c = refl

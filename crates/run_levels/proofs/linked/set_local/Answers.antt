@@ -1,7 +1,0 @@
--- The locals are the front of the level's row.
-use Rattle.run_words.specs.Laws.Seen.{local-kept}
-use Rattle.std.proofs.Common.{rules}
-use Rattle.run_levels.proofs.linked.set_local.Goals as goal
-
-pub returns : goal.returns
-returns c = λ copies e h laid. local-kept c.args.rows.now copies c.args.s e c.requires.0 h laid c.args.k c.args.value c.requires.1 c.ranges.value.fits
