@@ -3,21 +3,17 @@ use links::{Frame, Level, Links};
 use machine::{LastThrow, Lines, Machine};
 
 fn frame(r: usize) -> Frame {
-    let locals = [0u32; Frame::LOCALS];
     Frame {
-        locals,
         r,
-        address: 0,
+        ..Frame::default()
     }
 }
 
 fn level(s: usize, p: usize) -> Level {
-    let cells = [0u32; Level::CELLS];
     Level {
-        cells,
         s,
         p,
-        address: 0,
+        ..Level::default()
     }
 }
 

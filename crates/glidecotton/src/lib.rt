@@ -12,8 +12,9 @@ use machine::Refusal;
 pub fn bench(image: &[u8], memory: &mut [u8], out: &mut [u8]) -> Result<usize, Refusal>
     ensures { Benches image.now memory.old out.old (record { printed = says result; memory = memory.new; out = out.new }) }
 {
-    match image::read(image, memory) {
-        Ok(loaded) => {
+    let loaded = image::read(image, memory);
+    match loaded.verdict {
+        Ok(()) => {
             let machine = loaded.machine;
             let ran = run::run_fresh(memory, machine.cells, machine.p, loaded.budget);
             report::report(ran, out)
@@ -25,7 +26,7 @@ pub fn bench(image: &[u8], memory: &mut [u8], out: &mut [u8]) -> Result<usize, R
     }
 }
 
-// The answer of a bench as one number, which a text's length never meets.
+// The answer of a bench as one number, which a text's length never meets: no `From`, since only here is such a pair a host's number.
 fn number(printed: Result<usize, Refusal>) -> u64
     ensures { result ≡ number_of (says printed) }
 {

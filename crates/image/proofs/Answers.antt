@@ -1,6 +1,6 @@
 -- The reader's promise from what its parts ensure.
 use mathlib.Core.List.{List}
-use mathlib.Core.Path.{◌≡◌, sym, ap, subst₂, ◌∙◌}
+use mathlib.Core.Path.{◌≡◌, sym, ap, subst, subst₂, ◌∙◌}
 use Prim.Native.Nat.{ℕ}
 use lib.ListN.{length}
 use Rattle.std.proofs.Common.{Result, Err}
@@ -15,7 +15,7 @@ use Rattle.machine.proofs.Laws.Sum.{sum-padded}
 use Rattle.links.specs.Depths.{cells_depth}
 use Rattle.plain.specs.Zeros.{padded}
 use Rattle.image.specs.Format.{budget_of, cell_width}
-use Rattle.image.specs.Loading.{Returned, Read, not-spelled, read, filled, loaded_from, refused_with}
+use Rattle.image.specs.Loading.{Returned, Read, wrong-memory, not-spelled, read, other_memory, filled, loaded_from, refused_with}
 use Rattle.image.specs.Judging.{bad_file, finds, says_judged, values_in, judged_of}
 use Rattle.image.specs.Laws.Sound.{image_in, good-file, image-spellable, image-spells}
 use Rattle.image.proofs.Laws.Computed.{none-spells}
@@ -77,7 +77,13 @@ good-answer file before after returned spans bytes long h m l =
     subst₂ (λ (x : List ℕ) (y : Returned). Read file before x y) (sym m) (sym l)
     (read (image_in file spans) long (image-spellable file bytes spans good) (image-spells file bytes spans good))
 
--- and of a bad one
-pub file-refused : (file before : List ℕ) (j : Result Spans Fault) (fault : Fault) → length before ≡ memory_length → says_judged j ≡ judged_of file
-    → j ≡ Err fault → Read file before before (refused_with bad_file)
-file-refused file before j fault long is bad = not-spelled long (none-spells file bad_file fault (sym is ∙ ap says_judged bad))
+-- and of the two refusals
+pub memory-refused : (file before : List ℕ) (returned : Returned) → (length before ≡ memory_length → ⊥) → returned ≡ refused_with other_memory
+    → Read file before before returned
+memory-refused file before returned other e = subst (λ (h : Returned). Read file before before h) (sym e) (wrong-memory other)
+
+pub file-refused : (file before : List ℕ) (returned : Returned) (j : Result Spans Fault) (fault : Fault) → length before ≡ memory_length
+    → says_judged j ≡ judged_of file → j ≡ Err fault → returned ≡ refused_with bad_file → Read file before before returned
+file-refused file before returned j fault long is bad e =
+    subst (λ (h : Returned). Read file before before h) (sym e)
+    (not-spelled long (none-spells file bad_file fault (sym is ∙ ap says_judged bad)))

@@ -1,11 +1,10 @@
 -- What the reader answers, and what it leaves in the lent memory.
-use Rattle.std.specs.Prelude.{List, ◌≡◌, ℕ, length, Result, Ok, Err}
+use Rattle.std.specs.Prelude.{List, ◌≡◌, ℕ, length}
 use Rattle.plain.specs.Answer.{Answer, refuses, gives, not_as_asked}
 use Rattle.plain.specs.Zeros.{padded}
 use Rattle.machine.specs.Limits.{memory_length}
 use Rattle.machine.specs.declared.Machine.{Machine}
-use Rattle.machine.specs.declared.refusal.Refusal.{Refusal}
-use Rattle.machine.specs.Refusals.{number_of}
+use Rattle.machine.specs.Refusals.{says}
 use Rattle.machine.specs.State.{fresh_machine, machine_with}
 use Rattle.machine.specs.Sum.{sum_of}
 use Rattle.image.specs.Format.{Image, Spellable, budget_of, spelled}
@@ -23,6 +22,10 @@ pub record Returned : Type 0 where
   pub budget : ℕ
   pub sum : ℕ
 
+-- a good file has no number
+abbrev pub returned : Loaded → Returned
+returned loaded = record { says = says loaded.verdict; machine = loaded.machine; budget = loaded.budget; sum = loaded.sum }
+
 -- what a call of the reader leaves: the memory, and what it returned
 pub record Reading : Type 0 where
   pub memory : List ℕ
@@ -31,14 +34,6 @@ pub record Reading : Type 0 where
 -- with every refusal a fresh machine, budget 0 and sum 0
 unfoldable pub refused_with : ℕ → Returned
 refused_with answer = record { says = refuses answer; machine = fresh_machine; budget = 0; sum = 0 }
-
--- what a good file loads has no number
-abbrev pub loaded_as : Loaded → Returned
-loaded_as loaded = record { says = gives tt; machine = loaded.machine; budget = loaded.budget; sum = loaded.sum }
-
-abbrev pub returned : Result Loaded Refusal → Returned
-returned (Ok loaded) = loaded_as loaded
-returned (Err refusal) = refused_with (number_of refusal)
 
 -- the memory that an image fills
 abbrev pub filled : Image → List ℕ

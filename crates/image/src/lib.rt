@@ -6,7 +6,8 @@ mod place;
 mod sections;
 
 ghost use Rattle.std.specs.Prelude.{◌≡◌};
-ghost use Rattle.image.specs.Loading.{Read, returned};
+ghost use Rattle.image.specs.Loading.{Read, refused_with, returned};
+ghost use Rattle.machine.specs.Refusals.{number_of};
 ghost use Rattle.machine.specs.declared.refusal.Refusal.TheVariants.{BadImage};
 
 pub use judging::judge;
@@ -67,21 +68,36 @@ impl From<Fault> for Refusal {
     }
 }
 
-// What a good file loads: the machine and the budget that it spells, and the sum of the memory that it filled.
+// What the reader returns, with the sum of the memory that it filled. After a refusal too: then the machine is fresh, and budget and sum
+// are 0, as document 01 asks, so that the verdict stands beside them and not around them.
 #[derive(Clone, Copy)]
 pub struct Loaded {
     pub machine: Machine,
+    pub verdict: Result<(), Refusal>,
     pub budget: u32,
     pub sum: u64,
 }
 
+fn refused(refusal: Refusal) -> Loaded
+    ensures { returned result ≡ refused_with (number_of refusal) }
+{
+    Loaded {
+        machine: Machine::fresh(),
+        verdict: Err(refusal),
+        budget: 0,
+        sum: 0,
+    }
+}
+
 // The whole file is judged before memory is touched.
-pub fn read(file: &[u8], memory: &mut [u8]) -> Result<Loaded, Refusal>
+pub fn read(file: &[u8], memory: &mut [u8]) -> Loaded
     ensures { Read file.now memory.old memory.new (returned result) }
 {
     if memory.len() != Machine::MEMORY {
-        return Err(Refusal::NotAsAsked);
+        return refused(Refusal::NotAsAsked);
     }
-    let spans = judge(file)?;
-    Ok(place::image(file, spans, memory))
+    match judge(file) {
+        Ok(spans) => place::image(file, spans, memory),
+        Err(fault) => refused(Refusal::from(fault)),
+    }
 }

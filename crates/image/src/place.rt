@@ -1,16 +1,26 @@
 // Places what a good file spells.
-ghost use Rattle.std.specs.Prelude.{◌≡◌, ◌+◌, ◌*◌, ◌≤◌, length};
+ghost use Rattle.std.specs.Prelude.{◌≡◌, ◌+◌, ◌*◌, ◌≤◌, ◌++◌, length, drop};
 ghost use Rattle.plain.specs.Zeros.{padded};
 ghost use Rattle.machine.specs.Limits.{memory_length};
 ghost use Rattle.machine.specs.Sum.{sum_of};
 ghost use Rattle.links.specs.Depths.{cells_depth};
 ghost use Rattle.image.specs.Format.{cell_width};
-ghost use Rattle.image.specs.Loading.{loaded_as, filled, loaded_from};
+ghost use Rattle.image.specs.Loading.{returned, filled, loaded_from};
 ghost use Rattle.image.specs.Judging.{values_in};
 ghost use Rattle.image.specs.Laws.Sound.{GoodFile, image_in};
 
 use crate::{Loaded, Section, Span, Spans, sections};
 use machine::Machine;
+
+// Some bytes in front of a memory. A `for` and no `copy_from_slice`, by which the libraries would need memmove (include/glidecotton.h).
+fn put_front(bytes: &[u8], memory: &mut [u8])
+    requires { length bytes.now ≤ length memory.old }
+    ensures { memory.new ≡ bytes.now ++ drop (length bytes.now) memory.old }
+{
+    for i in 0..bytes.len() {
+        memory[i] = bytes[i];
+    }
+}
 
 // The bytes of an image, then zeros.
 #[tactic(auto, unfolding(plain::specs::Zeros::padded))]
@@ -18,9 +28,8 @@ fn memory_bytes(bytes: &[u8], memory: &mut [u8])
     requires { length bytes.now ≤ length memory.old }
     ensures { memory.new ≡ padded (length memory.old) bytes.now }
 {
-    let (filled, rest) = memory.split_at_mut(bytes.len());
-    filled.copy_from_slice(bytes);
-    rest.fill(0);
+    put_front(bytes, memory);
+    memory[bytes.len()..].fill(0);
 }
 
 // What the bytes of an image add up to, and so the memory that they fill: the zeros behind them add nothing.
@@ -50,7 +59,7 @@ fn cells(file: &[u8], span: Span) -> [u32; Machine::CELLS]
 // read later, it would be a number that the compiler does not know to be judged, and a branch around a machine (docs/SPEED.md).
 pub(crate) fn image(file: &[u8], spans: Spans, memory: &mut [u8]) -> Loaded
     requires { GoodFile file.now spans × (length memory.old ≡ memory_length) }
-    ensures { (memory.new ≡ filled (image_in file.now spans)) × (loaded_as result ≡ loaded_from (image_in file.now spans)) }
+    ensures { (memory.new ≡ filled (image_in file.now spans)) × (returned result ≡ loaded_from (image_in file.now spans)) }
 {
     let last = spans.budget;
     let budget = sections::budget_in(file, last);
@@ -65,6 +74,7 @@ pub(crate) fn image(file: &[u8], spans: Spans, memory: &mut [u8]) -> Loaded
     machine.p = stack.count;
     Loaded {
         machine,
+        verdict: Ok(()),
         budget,
         sum,
     }

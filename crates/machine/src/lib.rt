@@ -47,7 +47,8 @@ pub struct Steps(pub u32);
 #[derive(Clone, Copy)]
 pub struct Cycles(pub u32);
 
-// What a run answers, the instructions that it completed, the cycles that they took, and the machine that it leaves.
+// What a run answers, the instructions that it completed, the cycles that they took, and the machine that it leaves. The answer is a number
+// and no enum: 0 and 1 refuse nothing, and a report takes every number.
 #[derive(Clone, Copy)]
 pub struct Ran {
     pub answer: u32,
@@ -64,7 +65,8 @@ pub struct Reach {
     pub end: usize,
 }
 
-// Four tasks: a machine for each, and the number that it keeps: that it is ready, or the answer with which it left.
+// Four tasks: a machine for each, and the number that it keeps: that it is ready, or the answer with which it left. A host may hand in any
+// number, and a run of tasks refuses a bad one.
 #[derive(Clone, Copy)]
 pub struct Tasks {
     pub machines: [Machine; Tasks::COUNT],

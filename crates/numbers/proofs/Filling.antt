@@ -4,7 +4,8 @@ use Rattle.std.proofs.Common.{sym, ap, ◌∙◌, append_assoc, mod-eq_of_lt, ar
 use Rattle.std.proofs.lemmas.Bool.{ltb-true}
 use Rattle.std.proofs.lemmas.List.{drop-set}
 use Rattle.plain.specs.Choice.{pick}
-use Rattle.numbers.specs.Digits.{digit, digits, most_decimal, in_base, decimal, hexadecimal}
+use Rattle.numbers.specs.Digits.{digit, digits, most_decimal, decimal, hexadecimal}
+use Rattle.numbers.specs.Laws.Base.{in_base}
 use Rattle.numbers.specs.Laws.Digits.{decimal-small, length-between}
 
 -- ---- how many decimal digits there are

@@ -22,8 +22,3 @@ decimal n = digits most_decimal n
 unfoldable pub hexadecimal : ℕ → ℕ → List ℕ
 hexadecimal zero v = []
 hexadecimal (suc count) v = hexadecimal count (v / 16) ++ (digit (v % 16) ∷ [])
-
--- the same to any base of at most 16
-unfoldable pub in_base : ℕ → ℕ → ℕ → List ℕ
-in_base base zero v = []
-in_base base (suc count) v = in_base base count (v / base) ++ (digit (v % base) ∷ [])

@@ -10,6 +10,8 @@ pub mod Storing
 pub mod Lists
 -- Bytes written among the bytes of a list of numbers.
 pub mod Rewriting
+-- Digits to a base.
+pub mod Base
 -- Digits: how they go on, and how many there are.
 pub mod Digits
 -- What digits say is the number that was written.

@@ -1,6 +1,7 @@
 // Numbers as characters, put at a place of a slice of any length.
 ghost use Rattle.std.specs.Prelude.{◌≡◌, ◌<◌, ◌≤◌, length};
-ghost use Rattle.numbers.specs.Digits.{digit, in_base, decimal, hexadecimal};
+ghost use Rattle.numbers.specs.Digits.{digit, decimal, hexadecimal};
+ghost use Rattle.numbers.specs.Laws.Base.{in_base};
 ghost use Rattle.numbers.specs.Slices.{says_put, put_at};
 
 use crate::{Outside, places};

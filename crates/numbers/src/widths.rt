@@ -18,6 +18,9 @@ pub trait Number: Copy {
 
     // A number goes by way of 64 bits.
     ghost few: { BYTES ≤ 8 };
+
+    // No two values are one number.
+    ghost apart: { (a b : Self) → value a ≡ value b → a ≡ b };
 }
 
 impl Number for u8 {
@@ -26,6 +29,8 @@ impl Number for u8 {
     ghost value = { λ number. number };
 
     ghost few = { lit≤ tt };
+
+    ghost apart = { λ a b same. same };
 
     const BYTES: usize = 1;
 
@@ -41,6 +46,8 @@ impl Number for u16 {
 
     ghost few = { lit≤ tt };
 
+    ghost apart = { λ a b same. same };
+
     const BYTES: usize = 2;
 
     fn lowest(number: u64) -> u16 {
@@ -55,6 +62,8 @@ impl Number for u32 {
 
     ghost few = { lit≤ tt };
 
+    ghost apart = { λ a b same. same };
+
     const BYTES: usize = 4;
 
     fn lowest(number: u64) -> u32 {
@@ -68,6 +77,8 @@ impl Number for u64 {
     ghost value = { λ number. number };
 
     ghost few = { lit≤ tt };
+
+    ghost apart = { λ a b same. same };
 
     const BYTES: usize = 8;
 

@@ -1,4 +1,4 @@
--- What an answer that is an enum says, in document 01's terms: the number of a refusal, or what a good call gives.
+-- What an answer says, in document 01's terms: the number of a refusal, or what a good call gives.
 use Rattle.std.specs.Prelude.{ℕ}
 
 pub data Answer {ℓ} (A : Type ℓ) : Type ℓ where

@@ -1,6 +1,6 @@
 -- picks, joined tests, decided facts
 pub mod Choice
--- the answer of an enum: a refusal's number, or what is given
+-- what an answer says: a refusal's number, or what is given
 pub mod Answer
 -- numbers, then zeros
 pub mod Zeros

@@ -49,6 +49,7 @@ pub fn barred(reach: Reach, address: u32, size: u8) -> Option<Bar>
     None
 }
 
+// A name for the comparison, since contracts and a theorem speak of it.
 pub fn is_foreign(bar: Option<Bar>) -> bool
     ensures { result ≡ is_foreign (says_barred bar) }
 {

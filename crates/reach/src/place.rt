@@ -31,10 +31,7 @@ fn size_of(code: u8) -> u8
 fn in_own(reach: Reach, at: usize, end: usize) -> bool
     ensures { result ≡ both (leb reach.own at) (leb end reach.end) }
 {
-    if at < reach.own {
-        return false;
-    }
-    end <= reach.end
+    reach.own <= at && end <= reach.end
 }
 
 // An access that begins below the cells: 12 before 17.

@@ -1,7 +1,7 @@
 -- The promise to a host that hands an image in, from what the parts ensure.
 use Rattle.std.specs.Prelude.{Ok, Err}
 use mathlib.Core.List.{List, [], ◌++◌, append_assoc}
-use mathlib.Core.Path.{◌≡◌, refl, sym, ap, subst, ◌∙◌}
+use mathlib.Core.Path.{◌≡◌, sym, ap, subst, ◌∙◌}
 use Prim.Native.Nat.{ℕ, ◌^◌, ◌≤◌, ◌<◌}
 use native.Mathlib.Omega.{arith}
 use lib.ListN.{length, drop, length-append}
@@ -13,7 +13,7 @@ use Rattle.numbers.specs.Laws.Bytes.{length-bytes}
 use Rattle.numbers.specs.Laws.Slices.{write-inside}
 use Rattle.numbers.specs.Laws.Writing.{sets-append}
 use Rattle.machine.specs.Limits.{most_budget, most_sum}
-use Rattle.machine.specs.Refusals.{number_of}
+use Rattle.machine.specs.Refusals.{number_of, says}
 use Rattle.machine.specs.declared.refusal.Refusal.{Refusal}
 use Rattle.image.specs.Loading.{returned, Read, wrong-memory, not-spelled, read, refused_with, loaded_from}
 use Rattle.image.specs.Loading as loading
@@ -74,25 +74,25 @@ module _ (image memory state result : List ℕ) where
   pub other_result : (length result ≡ beside.width → ⊥) → Reads image memory state result (untouched 2)
   other_result h = reads.wrong-length (λ both. h both.1)
 
-  module _ (mid : List ℕ) (all : length state ≡ (layout.state).width) (long : length result ≡ beside.width) where
-    pub not-read : (why : Refusal) → Read image memory mid (returned (Err why))
+  module _ (mid : List ℕ) (loaded : Loaded) (all : length state ≡ (layout.state).width) (long : length result ≡ beside.width)
+      (is_read : Read image memory mid (returned loaded)) where
+    pub not-read : (why : Refusal) → loaded.verdict ≡ Err why
         → Reads image memory state result (record { number = number_of why; state = state; memory = mid; result = result })
-    unfolding refused_with
-    not-read why is_read =
-        let kept = refused-untouched image memory mid (returned (Err why)) (number_of why) is_read refl in
+    not-read why e =
+        let kept = refused-untouched image memory mid (returned loaded) (number_of why) is_read (ap says e) in
         subst (λ (m : List ℕ). Reads image memory state result (record { number = number_of why; state = state; memory = m; result = result }))
         (sym kept.1)
         (reads.refused (number_of why) all long kept.0)
 
-    pub handed_out_lem : (loaded : Loaded) (a : Answer (Unit {0})) (given : List ℕ) (w v : Wrote) → Read image memory mid (returned (Ok loaded))
+    pub handed_out_lem : {done : Unit {0}} (a : Answer (Unit {0})) (given : List ℕ) (w v : Wrote) → loaded.verdict ≡ Ok done
         → Gives layout.state loaded.machine state a given → w ≡ write_at 8 loaded.budget result 0 → v ≡ write_at 8 loaded.sum w.bytes 8
         → Reads image memory state result (record { number = 0; state = given; memory = mid; result = v.bytes })
-    handed_out_lem loaded a given w v is_read (wrong_size h) wrote behind = absurd (h all)
-    handed_out_lem loaded a given w v is_read (filled also fits) wrote behind =
-        let low : loaded.budget ≤ most_budget = budget-low image memory mid (returned (Ok loaded)) is_read in
+    handed_out_lem a given w v e (wrong_size h) wrote behind = absurd (h all)
+    handed_out_lem a given w v e (filled also fits) wrote behind =
+        let low : loaded.budget ≤ most_budget = budget-low image memory mid (returned loaded) is_read in
         let small : loaded.budget < 2 ^ 64 = omega arith in
-        let most : loaded.sum ≤ most_sum = sum_low image memory mid (returned (Ok loaded)) is_read in
+        let most : loaded.sum ≤ most_sum = sum_low image memory mid (returned loaded) is_read in
         let tiny : loaded.sum < 2 ^ 64 = omega arith in
         subst (λ (r : List ℕ). Reads image memory state result (record { number = 0; state = given; memory = mid; result = r }))
         (sym (beside-written loaded.budget loaded.sum result w v long wrote behind))
-        (reads.read (record { memory = mid; returned = returned (Ok loaded) }) all long is_read refl fits (small, (tiny, tt)))
+        (reads.read (record { memory = mid; returned = returned loaded }) all long is_read (ap says e) fits (small, (tiny, tt)))

@@ -29,7 +29,8 @@ fn read_image(
     if res.len() != RESULT {
         return Err(Refusal::NotAsAsked);
     }
-    let loaded = image::read(image, memory)?;
+    let loaded = image::read(image, memory);
+    loaded.verdict?;
     // both buffers are as long as what fills them
     state::give(loaded.machine, state).unwrap();
     numbers::write::<u64>(res, RESULT_BUDGET, loaded.budget as u64).unwrap();

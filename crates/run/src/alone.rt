@@ -12,7 +12,7 @@ ghost use Rattle.run_words.specs.Notes.{with_thrown, with_lines};
 ghost use Rattle.machine.specs.State.{fresh_with, well_formed, Whole};
 
 use crate::Counted;
-use machine::{Cycles, Machine, Ran, Reach, Steps};
+use machine::{Cycles, Machine, Ran, Reach, Refusal, Steps};
 use run_entry::{formed, served};
 use run_levels::{linked, parts, sums};
 use run_loop::round;
@@ -40,7 +40,7 @@ pub(crate) fn refused() -> Counted
     ensures { result ≡ record { answer = 2; steps = record { 0 = 0 }; cycles = record { 0 = 0 } } }
 {
     Counted {
-        answer: 2,
+        answer: Refusal::NotAsAsked as u32,
         steps: Steps(0),
         cycles: Cycles(0),
     }
@@ -53,7 +53,7 @@ pub(crate) fn declined(cells: [u32; Machine::CELLS], p: usize) -> Ran
     let mut machine = Machine::fresh();
     machine.cells = cells;
     machine.p = p;
-    ended(2, Steps(0), Cycles(0), machine)
+    ended(Refusal::NotAsAsked as u32, Steps(0), Cycles(0), machine)
 }
 
 // What a run hands back of its own arrays and registers.

@@ -2,7 +2,7 @@
 ghost use Rattle.run_words.specs.Levels.{in_rows, note_in};
 ghost use Rattle.run_words.specs.Rounds.{Starts, Ends};
 
-use machine::{Cycles, Machine, Reach, Steps};
+use machine::{Cycles, Machine, Reach, Refusal, Steps};
 use run_cells::dispatch;
 use run_instructions::{arms, checks, leave, price, tally};
 use run_levels::linked;
@@ -44,7 +44,7 @@ pub fn rounds(
     };
     while 0 < regs.left.0 {
         if fetch::foreign(mem, reach, regs.counter) {
-            regs = tally::halted(regs, 17);
+            regs = tally::halted(regs, Refusal::OthersPart as u32);
             continue;
         }
         let fetched = fetch::fetch(mem, regs.counter);

@@ -1,6 +1,6 @@
 -- the linked stacks, an instruction and a result of their parts
 pub mod Machines
--- what each answer enum says
+-- what the answers say
 pub mod Answers
 -- what the checks, the accesses and the operations on two cells answer
 pub mod Verdicts

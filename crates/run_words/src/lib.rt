@@ -28,7 +28,8 @@ pub enum Exit {
 }
 
 // P, R, S, E, the program counter and the flag; what is left of the budget and the cycles so far; and, once the run is over,
-// its answer with what it did not spend, and whether it goes on, since a line might enter.
+// its answer with what it did not spend, and whether it goes on, since a line might enter. The last two are no Option: each field is a
+// register of the processor in the loop (docs/SPEED.md).
 #[derive(Clone, Copy)]
 pub struct Registers {
     pub p: usize,

@@ -11,10 +11,7 @@ use run_words::Clock;
 pub(crate) fn turn_length(quantum: u32, left: u32) -> u32
     ensures { result ≡ turn_length quantum left }
 {
-    if quantum < left {
-        return quantum;
-    }
-    left
+    quantum.min(left)
 }
 
 // No turn is without a step. The compiler sees it, and spares a test in every turn (docs/SPEED.md).
@@ -22,10 +19,7 @@ pub(crate) fn some(length: u32) -> u32
     requires { 1 ≤ length }
     ensures { result ≡ length }
 {
-    if length == 0 {
-        return 1;
-    }
-    length
+    length.max(1)
 }
 
 // So many steps and cycles were taken, and this task is asked first.

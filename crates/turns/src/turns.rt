@@ -11,7 +11,7 @@ ghost use Rattle.run_words.specs.Clocks.{ran_tasks_of, LinedTask};
 ghost use Rattle.run_words.specs.Levels.{machines_in, losses_in, AllLaid, HeedsSame, Seats};
 
 use crate::{Counted, ticks};
-use machine::{Cycles, Machine, RanTasks, Reach, Steps, Tasks};
+use machine::{Cycles, Machine, RanTasks, Reach, Refusal, Steps, Tasks};
 use run_entry::{formed, served};
 use run_levels::{linked, parts, sums, taskrows};
 use run_loop::round;
@@ -55,7 +55,7 @@ pub(crate) fn refused() -> Counted
     ensures { result ≡ record { answer = 2; steps = record { 0 = 0 }; cycles = record { 0 = 0 } } }
 {
     Counted {
-        answer: 2,
+        answer: Refusal::NotAsAsked as u32,
         steps: Steps(0),
         cycles: Cycles(0),
     }

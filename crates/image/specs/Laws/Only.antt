@@ -1,12 +1,10 @@
 -- No second answer: no file is spelled by two images, and two results that meet the reader's promise are equal.
 use Rattle.std.specs.Prelude.{List, ◌≡◌, refl, ℕ, Result, Ok, Err}
 use Rattle.std.proofs.Common.{sym, ap, ◌∙◌}
-use Rattle.plain.specs.Answer.{Answer, refuses, gives}
-use Rattle.machine.specs.Refusals.{number_of}
 use Rattle.machine.specs.declared.refusal.Refusal.{Refusal}
-use Rattle.machine.proofs.Laws.Refusing.{same-refusal}
+use Rattle.machine.proofs.Laws.Refusing.{same-said}
 use Rattle.image.specs.Format.{Image, Spellable, spelled, limits, longest_file}
-use Rattle.image.specs.Loading.{Returned, returned, Reading, Read, wrong-memory, not-spelled, read, filled, loaded_from, refused_with}
+use Rattle.image.specs.Loading.{Returned, returned, Reading, Read, wrong-memory, not-spelled, read, filled, loaded_from}
 use Rattle.image.specs.Judging.{finds, says_judged, judged_of, spans_of, Judges}
 use Rattle.image.specs.Laws.Sound.{image_in}
 use Rattle.image.specs.Laws.Complete.{found, accepted}
@@ -53,17 +51,14 @@ only-reading file before m₁ m₂ h₁ h₂ (read i e a s) (not-spelled f n) = 
 only-reading file before m₁ m₂ h₁ h₂ (read i e a s) (read j f b t) =
     ap (λ (x : Image). record { memory = filled x; returned = loaded_from x }) (only-image i j a b (s ∙ sym t))
 
-same-loaded : (a b : Result Loaded Refusal) → returned a ≡ returned b → a ≡ b
-unfolding refused_with
-same-loaded (Ok a) (Ok b) e = λ i. Ok (record { machine = (e i).machine; budget = (e i).budget; sum = (e i).sum })
-same-loaded (Ok a) (Err why) e = let z : gives tt ≡ refuses (number_of why) = ap (λ (r : Returned). r.says) e in cc
-same-loaded (Err why) (Ok b) e = let z : refuses (number_of why) ≡ gives tt = ap (λ (r : Returned). r.says) e in cc
-same-loaded (Err why) (Err other) e =
-    let z : ◌≡◌ {A = Answer (Unit {0})} (refuses (number_of why)) (refuses (number_of other)) = ap (λ (r : Returned). r.says) e in
-    ap Err (same-refusal why other (cc))
-
-pub only-read : (file before x y : List ℕ) (a b : Result Loaded Refusal) → Read file before x (returned a) → Read file before y (returned b)
-    → (x ≡ y) × (a ≡ b)
+pub only-read : (file before x y : List ℕ) (a b : Loaded) → Read file before x (returned a) → Read file before y (returned b) → (x ≡ y) × (a ≡ b)
 only-read file before x y a b h k =
     let same = only-reading file before x y (returned a) (returned b) h k in
-    (ap (λ (r : Reading). r.memory) same, same-loaded a b (ap (λ (r : Reading). r.returned) same))
+    let v = same-said a.verdict b.verdict (ap (λ (r : Reading). r.returned.says) same) in (
+      ap (λ (r : Reading). r.memory) same,
+      λ i. record { verdict = v i; machine = (same i).returned.machine; budget = (same i).returned.budget; sum = (same i).returned.sum },
+    )
+
+-- From<Fault>: the refusal of every fault
+pub only-fault : (right a b : Refusal) → a ≡ right → b ≡ right → a ≡ b
+only-fault right a b h k = h ∙ sym k

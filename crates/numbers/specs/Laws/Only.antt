@@ -1,5 +1,5 @@
 -- No second answer: two answers that meet a promise, with the bytes that they leave, are equal.
-use Rattle.std.specs.Prelude.{List, ◌≡◌, refl, ℕ, Option, Some, None, Result, Ok, Err}
+use Rattle.std.specs.Prelude.{option_map, List, ◌≡◌, refl, ℕ, Option, Some, None, Result, Ok, Err}
 use Rattle.std.proofs.Common.{sym, ap, ◌∙◌}
 use Rattle.numbers.specs.Slices.{says_found, says_written, read_at, Wrote, write_at, says_put, WroteText, put_at}
 use Rattle.numbers.specs.declared.Outside.{Outside}
@@ -46,6 +46,21 @@ only-put characters text at a b x y h k =
     let same : ◌≡◌ {A = WroteText} (record { said = says_put a; text = x }) (record { said = says_put b; text = y }) = h ∙ sym k in
     (same-put a b (ap (λ (s : WroteText). s.said) same), ap (λ (s : WroteText). s.text) same)
 
--- Number::lowest: a number that is given by an equation
+-- read at any type of numbers, no two values of which are one number
+pub only-read-as : {A : Type 0} (value : A → ℕ) → ((a b : A) → value a ≡ value b → a ≡ b) → (n : ℕ) (bytes : List ℕ) (at : ℕ) (a b : Option A)
+    → says_found (option_map value a) ≡ read_at n bytes at → says_found (option_map value b) ≡ read_at n bytes at → a ≡ b
+only-read-as value apart n bytes at a b h k = go a b (only-read n bytes at (option_map value a) (option_map value b) h k)
+  where
+    go : (x y : Option _) → option_map value x ≡ option_map value y → x ≡ y
+    go (Some x) (Some y) e = ap Some (apart x y (cc))
+    go (Some x) None e = cc
+    go None (Some y) e = cc
+    go None None e = refl
+
+-- Number::lowest: the value whose number is given by an equation
+pub only-lowest : {A : Type 0} (value : A → ℕ) → ((a b : A) → value a ≡ value b → a ≡ b) → (n : ℕ) (a b : A) → value a ≡ n → value b ≡ n → a ≡ b
+only-lowest value apart n a b h k = apart a b (h ∙ sym k)
+
+-- a number that is given by an equation
 pub only-joined : (joined a b : ℕ) → a ≡ joined → b ≡ joined → a ≡ b
 only-joined joined a b h k = h ∙ sym k

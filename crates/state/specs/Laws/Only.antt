@@ -11,6 +11,7 @@ use Rattle.machine.specs.declared.Machine.{Machine}
 use Rattle.machine.proofs.Laws.Pairs.{only-tasks-in}
 use Rattle.machine.specs.declared.Tasks.{Tasks}
 use Rattle.machine.specs.Tasks.{Four, tasks_in}
+use Rattle.state.specs.Answered.{answered}
 use Rattle.state.specs.Parts.{Part}
 use Rattle.state.specs.Layout.{state, tasks}
 use Rattle.state.specs.Promise.{says_taken, taken_machine, blank_tasks, taken_tasks, Takes, wrong-length, spelled, TakesTasks, not-four, spelled-tasks, Gives, wrong_size, filled}
@@ -100,3 +101,7 @@ tasks-taken-back t u before after a b four long (filled also fit) k =
 pub tasks-given-back : (bytes before after : List ℕ) (t : Tasks) (a : Answer (Unit {0})) → length before ≡ tasks.width → TakesTasks bytes (gives tt) t
     → Gives tasks (tasks_in t) before a after → after ≡ bytes
 tasks-given-back bytes before after t a long (spelled-tasks _ also four fit is) g = given-bytes tasks (tasks_in t) before bytes a after long is g
+
+-- answered: the number that a host is told
+pub only-answered : (done : Result (Unit {0}) Refusal) (a b : ℕ) → a ≡ answered done → b ≡ answered done → a ≡ b
+only-answered done a b h k = h ∙ sym k

@@ -1,6 +1,6 @@
 -- The digits that are left, then those that are put, are all.
 use Rattle.std.proofs.Common.{◌≡◌, ◌++◌, length, drop}
-use Rattle.numbers.specs.Digits.{in_base}
+use Rattle.numbers.specs.Laws.Base.{in_base}
 use Rattle.numbers.proofs.digits.put_digits.Given as goal
 
 abbrev pub invariant-loop-place : goal.invariant-loop-place

@@ -1,6 +1,6 @@
 -- As many digits to the base 10 as the number has are its decimal.
 use Rattle.std.proofs.Common.{ap, ◌∙◌, ℕ, List}
-use Rattle.numbers.specs.Digits.{in_base}
+use Rattle.numbers.specs.Laws.Base.{in_base}
 use Rattle.numbers.specs.Slices.{put_at}
 use Rattle.numbers.proofs.Filling.{in_base-decimal}
 use Rattle.numbers.proofs.digits.write_decimal.Goals as goal

@@ -1,6 +1,6 @@
 -- Where there is room the digits are put, else nothing is touched.
 use Rattle.std.proofs.Common.{refl, sym, ℕ}
-use Rattle.numbers.specs.Digits.{in_base}
+use Rattle.numbers.specs.Laws.Base.{in_base}
 use Rattle.numbers.proofs.Answering.{within, part-sets, put, not-put}
 use Rattle.numbers.proofs.Filling.{length-in_base}
 use Rattle.numbers.proofs.digits.write_digits.Goals as goal
