@@ -1,7 +1,7 @@
 -- The reader's promise from what its parts ensure.
 use mathlib.Core.List.{List}
 use mathlib.Core.Path.{◌≡◌, sym, ap, subst, subst₂, ◌∙◌}
-use Prim.Native.Nat.{ℕ}
+use Prim.Native.Nat.{ℕ, ◌+◌, ◌*◌, ◌≤◌}
 use lib.ListN.{length}
 use Rattle.std.proofs.Common.{Result, Err}
 use Rattle.plain.specs.Answer.{gives}
@@ -14,14 +14,19 @@ use Rattle.machine.specs.Sum.{sum_of}
 use Rattle.machine.proofs.Laws.Sum.{sum-padded}
 use Rattle.links.specs.Depths.{cells_depth}
 use Rattle.plain.specs.Zeros.{padded}
-use Rattle.image.specs.Format.{budget_of, cell_width}
+use Rattle.image.specs.Format.{budget_of, cell_width, limits}
 use Rattle.image.specs.Loading.{Returned, Read, wrong-memory, not-spelled, read, other_memory, filled, loaded_from, refused_with}
 use Rattle.image.specs.Judging.{bad_file, finds, says_judged, values_in, judged_of}
-use Rattle.image.specs.Laws.Sound.{image_in, good-file, image-spellable, image-spells}
+use Rattle.image.specs.Laws.Sound.{GoodFile, image_in, good-file, image-spellable, image-spells}
+use Rattle.image.specs.Laws.Section.{elements-inside}
 use Rattle.image.proofs.Laws.Computed.{none-spells}
 use Rattle.image.specs.declared.Fault.{Fault}
 use Rattle.image.specs.declared.Section.TheVariants.{Memory, Cells, Budget}
 use Rattle.image.specs.declared.Spans.{Spans}
+
+-- the memory section of a good file lies inside it
+pub memory-inside : (file : List ℕ) (spans : Spans) → GoodFile file spans → spans.memory.from + (limits Memory).width * spans.memory.count ≤ length file
+memory-inside file spans good = elements-inside file Memory 0 spans.memory good.memory-whole
 
 -- what is placed is the image
 module _ (file : List ℕ) (spans : Spans) where
