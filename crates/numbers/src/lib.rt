@@ -5,12 +5,14 @@ use std::error::Error;
 use std::fmt;
 
 mod digits;
+mod joining;
 mod places;
 mod reading;
 mod widths;
 mod writing;
 
 pub use digits::{MOST_DECIMAL, write_decimal, write_hexadecimal};
+pub use joining::{four_bytes, one_byte, three_bytes, two_bytes};
 pub use reading::read;
 pub use widths::Number;
 pub use writing::write;

@@ -1,9 +1,9 @@
 // The registers once an instruction is carried out, and once the run is over.
-ghost use Rattle.std.specs.Prelude.{◌≡◌, ◌+◌, ◌*◌, ◌<◌, ◌≤◌};
+ghost use Rattle.std.specs.Prelude.{◌≡◌, ◌+◌, ◌*◌, ◌<◌, ◌≤◌, true, false};
 ghost use Rattle.machine.specs.Limits.{most_budget};
 ghost use Rattle.run_words.specs.Registers.{begun_at, counted_to, halted_at, paused_at, parted_at, joined_to};
 
-use machine::{Cycles, Steps};
+use machine::{Cycles, Machine, Steps};
 use run_words::{Pointers, Registers};
 
 // Nothing is spent at first.
@@ -23,6 +23,22 @@ pub fn begun(start: Pointers, left: u32) -> Registers
         unspent: Steps(0),
         again: false,
     }
+}
+
+// Whether a step is left. Where lines may enter a run of one machine, it is asked of what is left after the step: then the compiler counts
+// the steps down where it asks, and the cycles up behind the instruction. Where it does both in one place it holds the two in one wide
+// register, and a step takes a quarter longer. In turns, and in a run that no line can enter, the plain test is the shorter (docs/SPEED.md).
+pub fn some_left(left: u32, turns: bool, lines: bool) -> bool
+    requires { left ≤ most_budget }
+    ensures { (result ≡ true → 0 < left) × (result ≡ false → left ≤ 0) }
+{
+    if turns {
+        return 0 < left;
+    }
+    if lines {
+        return left.wrapping_sub(1) < Machine::BUDGET;
+    }
+    left != 0
 }
 
 // One more step, and its cycles.

@@ -42,7 +42,7 @@ pub fn rounds(
         unspent: Steps(0),
         again: false,
     };
-    while 0 < regs.left.0 {
+    while tally::some_left(regs.left.0, turns, lines) {
         if fetch::foreign(mem, reach, regs.counter) {
             regs = tally::halted(regs, Refusal::OthersPart as u32);
             continue;

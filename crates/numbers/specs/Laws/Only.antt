@@ -61,6 +61,6 @@ only-read-as value apart n bytes at a b h k = go a b (only-read n bytes at (opti
 pub only-lowest : {A : Type 0} (value : A → ℕ) → ((a b : A) → value a ≡ value b → a ≡ b) → (n : ℕ) (a b : A) → value a ≡ n → value b ≡ n → a ≡ b
 only-lowest value apart n a b h k = apart a b (h ∙ sym k)
 
--- a number that is given by an equation
+-- one_byte, two_bytes, three_bytes, four_bytes: a number that is given by an equation
 pub only-joined : (joined a b : ℕ) → a ≡ joined → b ≡ joined → a ≡ b
 only-joined joined a b h k = h ∙ sym k
