@@ -178,7 +178,9 @@ impl Stored for Machine {
     }
 
     fn put(&self, state: &mut [u8], at: usize) {
-        stored::put_all(state, at, &self.cells);
+        // taken out first: where they are read inside the machine, the reader's library copies them in by memcpy, which it does without
+        let cells = self.cells;
+        stored::put_all(state, at, &cells);
         self.p.put(state, at + places::STATE_P);
         self.links.put(state, at + places::STATE_LINKS);
         self.counter.put(state, at + places::STATE_COUNTER);
