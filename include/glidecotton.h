@@ -32,7 +32,7 @@ enum {
     GLIDECOTTON_READ_RESULT = 16,      /* bytes of the reader's result */
     GLIDECOTTON_MOST_SUM = 8355840,    /* the greatest memory sum that a run takes: that of a memory of which every byte is 255 */
     GLIDECOTTON_STACK = 16384,         /* bytes of stack that are enough for a call, but of tasks; rust/stack measures it. On x86-64 a run of
-                                          a state takes 15,984 at the most, a bench 4,620 and a read 4,080 */
+                                          a state takes 16,000 at the most, a bench 4,620 and a read 4,064 */
     GLIDECOTTON_TASKS_STACK = 98304    /* and for a call of glidecotton_run_tasks, which holds four machines; on x86-64 it takes
                                           81,456 at the most */
 };
